@@ -1,0 +1,9 @@
+mod Outside
+pub mod Laws
+mod Summing
+mod Ramps
+mod Courses
+mod Formulas
+mod WorkedSums
+pub mod BrakeLaws
+pub mod RunOutLaws

@@ -1,0 +1,24 @@
+use mathlib.Core.Path.{_≡_, refl, sym, ap, _∙_}
+use mathlib.Core.Bool.{cond}
+use Rattle.std.specs.declared.option.Option.the-variants.{Some}
+use Rattle.runout.specs.declared.fields.PlateField.the-variants.{Brake}
+use Rattle.runout.specs.Fields.{first-outside}
+use Rattle.runout.proofs.Outside.{outside-next, outside-none}
+use Rattle.runout.proofs.fields.PlateFields.first_outside_of.Needs as need
+
+pub returns-then-not-in-range : need.returns-then-not-in-range
+returns-then-not-in-range c =
+    let next = outside-next (c .args .self .now) (c .args .fields .now) (c .loop-field .field-index) Brake (c .loop-field-test .taken) in
+    let failed = c .if-not-in-range .ensures tt in
+    let found = simp (sym failed) at next in
+    cc
+
+pub loop-field-again : need.loop-field-again
+loop-field-again c =
+    let next = outside-next (c .args .self .now) (c .args .fields .now) (c .loop-field .field-index) Brake (c .loop-field-test .taken) in
+    let passed = c .if-not-in-range .ensures tt in
+    let found = simp (sym passed) at next in
+    cc
+
+pub returns : need.returns
+returns c = cc (outside-none (c .args .self .now) (c .args .fields .now) (c .loop-field .field-index) (c .loop-field-test .left))
