@@ -111,27 +111,16 @@ impl PlateFields {
     pub fn in_order(numbers: [i64; 9]) -> PlateFields
         ensures { λ r. ⌜ r ≡ in-order numbers ⌝ }
     {
-        let [
-            brake,
-            pull,
-            drive_error,
-            hold,
-            speed_error,
-            place_error,
-            top_speed,
-            turn_limit,
-            half_side,
-        ] = numbers;
         PlateFields {
-            brake,
-            pull,
-            drive_error,
-            hold,
-            speed_error,
-            place_error,
-            top_speed,
-            turn_limit,
-            half_side,
+            brake: numbers[0],
+            pull: numbers[1],
+            drive_error: numbers[2],
+            hold: numbers[3],
+            speed_error: numbers[4],
+            place_error: numbers[5],
+            top_speed: numbers[6],
+            turn_limit: numbers[7],
+            half_side: numbers[8],
         }
     }
 
