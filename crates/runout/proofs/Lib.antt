@@ -1,4 +1,3 @@
-mod Outside
 pub mod Laws
 mod Summing
 mod Ramps

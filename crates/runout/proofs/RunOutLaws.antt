@@ -5,7 +5,7 @@ use native.Mathlib.Omega.{arith}
 use native.Mathlib.Nat.{le-refl, mul-one}
 use lib.IntN.{ℤ, pos, natAbs, _+ℤ_}
 use Rattle.std.proofs.shelf.Bits.{mul-le}
-use Rattle.runout.specs.declared.plates.Plate.{Plate}
+use Rattle.plates.specs.declared.plates.Plate.{Plate}
 use Rattle.runout.specs.declared.journeys.RunOut.{RunOut}
 use Rattle.runout.specs.Speeds.{course, slowing, Of}
 use Rattle.runout.specs.RunOuts.{braking, speeds, settled, run-out, run-out-is}

@@ -9,13 +9,13 @@ use Rattle.std.specs.shelf.Lists.{All}
 use Rattle.std.specs.declared.option.Option.{Option}
 use Rattle.std.specs.declared.option.Option.the-variants.{None}
 use Rattle.refusals.specs.Refusals.{Refusal}
-use Rattle.runout.specs.declared.fields.PlateFields.{PlateFields}
+use Rattle.plates.specs.declared.fields.PlateFields.{PlateFields}
 use Rattle.runout.specs.declared.journeys.RunOut.{RunOut}
-use Rattle.runout.specs.declared.plates.Plate.{Plate}
+use Rattle.plates.specs.declared.plates.Plate.{Plate}
 use Rattle.runout.specs.declared.worked.WorkedSum.{WorkedSum}
-use Rattle.runout.specs.Fields.{first-outside}
+use Rattle.plates.specs.Fields.{first-outside}
 use Rattle.runout.specs.Formulas.{rise-formula, fall-formula}
-use Rattle.runout.specs.Plates.{plate-refused, held}
+use Rattle.plates.specs.Plates.{plate-refused, held}
 use Rattle.runout.specs.RunOuts.{braking, limits-refused, run-out-refused, run-out}
 use Rattle.runout.specs.Speeds.{course, Of}
 use Rattle.runout.specs.WorkedSums.{worked-sums, Right}

@@ -1,6 +1,4 @@
-pub mod Fields
 pub mod Faults
-pub mod Plates
 pub mod Speeds
 pub mod Brake
 pub mod Formulas

@@ -8,7 +8,7 @@ use lib.Signed.{leZ}
 use Rattle.std.specs.declared.option.Option.{Option}
 use Rattle.refusals.specs.Refusals.{Refusal}
 use Rattle.refusals.specs.Answers.{first-of}
-use Rattle.runout.specs.declared.plates.Plate.{Plate}
+use Rattle.plates.specs.declared.plates.Plate.{Plate}
 use Rattle.runout.specs.declared.journeys.RunOut.{RunOut}
 use Rattle.runout.specs.declared.faults.RunOutFault.the-variants.{Speed, Acceleration}
 use Rattle.runout.specs.Faults.{run-out-fault}

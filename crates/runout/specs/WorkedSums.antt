@@ -4,10 +4,10 @@ use mathlib.Core.List.{List, [], _∷_}
 use Prim.Native.Nat.{ℕ}
 use lib.IntN.{ℤ, pos, negℤ}
 use Rattle.std.specs.declared.option.Option.the-variants.{None}
-use Rattle.runout.specs.declared.fields.PlateFields.{PlateFields}
-use Rattle.runout.specs.declared.plates.Plate.{Plate}
+use Rattle.plates.specs.declared.fields.PlateFields.{PlateFields}
+use Rattle.plates.specs.declared.plates.Plate.{Plate}
 use Rattle.runout.specs.declared.worked.WorkedSum.{WorkedSum}
-use Rattle.runout.specs.Plates.{plate-refused, held}
+use Rattle.plates.specs.Plates.{plate-refused, held}
 use Rattle.runout.specs.RunOuts.{run-out-refused, run-out}
 
 -- the sample plate, with its drive error and its speed error

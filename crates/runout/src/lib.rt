@@ -1,24 +1,25 @@
-// What one cart can do (its plate), and the worst journey that a proposal allows (its run-out).
+// The run-out of a cart: the worst journey that a proposal allows. What it needs of the layers below is named here too.
 mod faults;
-mod fields;
 mod journeys;
-mod plates;
 mod stopping;
 mod sums;
 mod worked;
 
-pub use faults::PlateFault;
-pub use faults::PlateFaultDisplay;
-pub use faults::PlateFaultSays;
 pub use faults::RunOutFault;
 pub use faults::RunOutFaultDisplay;
 pub use faults::RunOutFaultSays;
-pub use fields::PlateField;
-pub use fields::PlateFieldDisplay;
-pub use fields::PlateFields;
-pub use fields::Range;
 pub use journeys::RunOut;
 pub use plates::Plate;
+pub use plates::PlateFault;
+pub use plates::PlateFaultDisplay;
+pub use plates::PlateFaultSays;
+pub use plates::PlateField;
+pub use plates::PlateFieldDisplay;
+pub use plates::PlateFields;
+pub use plates::Range;
+pub use refusals::Fault;
+pub use refusals::Layer;
+pub use refusals::LayerDisplay;
 pub use stopping::run_out;
 pub use sums::worked_sums;
 pub use worked::WorkedSum;

@@ -11,7 +11,7 @@ ghost use Rattle.runout.specs.Faults.{run-out-fault};
 ghost use Rattle.runout.specs.RunOuts.{run-out-refused, speeds, run-out};
 use crate::faults::RunOutFault;
 use crate::journeys::RunOut;
-use crate::plates::Plate;
+use plates::Plate;
 
 // No cart is measured faster, in nm per ms.
 const FASTEST: i64 = 10_000_000;

@@ -2,9 +2,9 @@
 ghost use mathlib.Core.Path.{_≡_};
 ghost use Rattle.std.specs.shelf.Lists.{All};
 ghost use Rattle.runout.specs.WorkedSums.{worked-sums, Right};
-use crate::fields::PlateFields;
 use crate::journeys::RunOut;
 use crate::worked::WorkedSum;
+use plates::PlateFields;
 
 const SAMPLE: PlateFields = PlateFields {
     brake: 1_200,

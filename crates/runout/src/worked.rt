@@ -1,6 +1,6 @@
 // A run-out that was worked out beforehand.
-use crate::fields::PlateFields;
 use crate::journeys::RunOut;
+use plates::PlateFields;
 
 // The numbers of a plate, a measured speed and an acceleration, and the run-out that they give.
 #[derive(Clone, Copy)]

@@ -2,8 +2,8 @@
 
 #[cfg(test)]
 mod tests {
-    use refusals::Fault;
-    use refusals::Layer;
+    use runout::Fault;
+    use runout::Layer;
     use runout::Plate;
     use runout::PlateFault;
     use runout::PlateFaultDisplay;

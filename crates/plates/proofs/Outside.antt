@@ -10,9 +10,9 @@ use Rattle.std.proofs.shelf.Lists.{at-drop-more, at-drop-all}
 use Rattle.std.specs.shelf.Lists.{All}
 use Rattle.std.specs.declared.option.Option.{Option}
 use Rattle.std.specs.declared.option.Option.the-variants.{Some, None}
-use Rattle.runout.specs.declared.fields.PlateField.{PlateField}
-use Rattle.runout.specs.declared.fields.PlateFields.{PlateFields}
-use Rattle.runout.specs.Fields.{in-range, first-outside, In-range}
+use Rattle.plates.specs.declared.fields.PlateField.{PlateField}
+use Rattle.plates.specs.declared.fields.PlateFields.{PlateFields}
+use Rattle.plates.specs.Fields.{in-range, first-outside, In-range}
 
 -- one field more is looked at
 pub outside-next : (f : PlateFields) (fields : List PlateField) (i : ℕ) (d : PlateField) → i < length fields → first-outside f (drop i fields) ≡ cond (in-range f (getD fields i d)) (first-outside f (drop (i + 1) fields)) (Some (getD fields i d))

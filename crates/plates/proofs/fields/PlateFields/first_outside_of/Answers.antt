@@ -1,10 +1,10 @@
 use mathlib.Core.Path.{_≡_, refl, sym, ap, _∙_}
 use mathlib.Core.Bool.{cond}
 use Rattle.std.specs.declared.option.Option.the-variants.{Some}
-use Rattle.runout.specs.declared.fields.PlateField.the-variants.{Brake}
-use Rattle.runout.specs.Fields.{first-outside}
-use Rattle.runout.proofs.Outside.{outside-next, outside-none}
-use Rattle.runout.proofs.fields.PlateFields.first_outside_of.Needs as need
+use Rattle.plates.specs.declared.fields.PlateField.the-variants.{Brake}
+use Rattle.plates.specs.Fields.{first-outside}
+use Rattle.plates.proofs.Outside.{outside-next, outside-none}
+use Rattle.plates.proofs.fields.PlateFields.first_outside_of.Needs as need
 
 pub returns-then-not-in-range : need.returns-then-not-in-range
 returns-then-not-in-range c =

@@ -1,7 +1,7 @@
 // A plate: the numbers of one cart, each in its range.
 ghost use Prim.Native.Nat.{_+_, _<_, _≤_};
-ghost use Rattle.runout.specs.declared.fields.PlateField.the-variants.{Brake, Pull, DriveError, Hold, SpeedError, PlaceError, TopSpeed, TurnLimit, HalfSide};
-ghost use Rattle.runout.specs.Fields.{Ranged};
+ghost use Rattle.plates.specs.declared.fields.PlateField.the-variants.{Brake, Pull, DriveError, Hold, SpeedError, PlaceError, TopSpeed, TurnLimit, HalfSide};
+ghost use Rattle.plates.specs.Fields.{Ranged};
 
 mod making;
 mod reading;

@@ -8,10 +8,10 @@ use lib.Signed.{leZ, _≤ℤ_}
 use lib.Chars.{codes}
 use Rattle.std.specs.declared.option.Option.{Option}
 use Rattle.std.specs.declared.option.Option.the-variants.{Some, None}
-use Rattle.runout.specs.declared.fields.PlateField.{PlateField}
-use Rattle.runout.specs.declared.fields.PlateField.the-variants.{Brake, Pull, DriveError, Hold, SpeedError, PlaceError, TopSpeed, TurnLimit, HalfSide}
-use Rattle.runout.specs.declared.fields.PlateFields.{PlateFields}
-use Rattle.runout.specs.declared.fields.Range.{Range}
+use Rattle.plates.specs.declared.fields.PlateField.{PlateField}
+use Rattle.plates.specs.declared.fields.PlateField.the-variants.{Brake, Pull, DriveError, Hold, SpeedError, PlaceError, TopSpeed, TurnLimit, HalfSide}
+use Rattle.plates.specs.declared.fields.PlateFields.{PlateFields}
+use Rattle.plates.specs.declared.fields.Range.{Range}
 
 -- the fields in their order
 abbrev pub plate-fields : List PlateField

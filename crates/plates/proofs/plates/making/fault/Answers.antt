@@ -6,13 +6,13 @@ use Rattle.std.specs.Options.{Cases, mapped}
 use Rattle.std.specs.shelf.Lists.{All}
 use Rattle.std.specs.declared.option.Option.{Option}
 use Rattle.std.specs.declared.option.Option.the-variants.{Some, None}
-use Rattle.runout.specs.declared.faults.PlateFault.{PlateFault}
-use Rattle.runout.specs.declared.fields.PlateFields.{PlateFields}
-use Rattle.runout.specs.Faults.{plate-fault}
-use Rattle.runout.specs.Fields.{plate-fields, In-range}
-use Rattle.runout.specs.Plates.{unrelated, Sound}
-use Rattle.runout.proofs.Outside.{all-inside}
-use Rattle.runout.proofs.plates.making.fault.Needs as need
+use Rattle.plates.specs.declared.faults.PlateFault.{PlateFault}
+use Rattle.plates.specs.declared.fields.PlateFields.{PlateFields}
+use Rattle.plates.specs.Faults.{plate-fault}
+use Rattle.plates.specs.Fields.{plate-fields, In-range}
+use Rattle.plates.specs.Plates.{unrelated, Sound}
+use Rattle.plates.proofs.Outside.{all-inside}
+use Rattle.plates.proofs.plates.making.fault.Needs as need
 
 sound : (f : PlateFields) (r : Option PlateFault) → All (In-range f) plate-fields → mapped plate-fault r ≡ unrelated f → Cases r (Sound f) (λ _. Unit {0})
 sound f None inside told = record { ranged = inside; braking = grind (arith, ints); speed-known = grind (arith, ints) }

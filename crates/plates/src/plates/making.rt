@@ -2,8 +2,8 @@
 ghost use mathlib.Core.Path.{_≡_};
 ghost use Rattle.std.specs.Options.{Cases, mapped};
 ghost use Rattle.refusals.specs.Answers.{Answers};
-ghost use Rattle.runout.specs.Faults.{plate-fault};
-ghost use Rattle.runout.specs.Plates.{unrelated, plate-refused, Sound, held};
+ghost use Rattle.plates.specs.Faults.{plate-fault};
+ghost use Rattle.plates.specs.Plates.{unrelated, plate-refused, Sound, held};
 use crate::faults::PlateFault;
 use crate::fields::PlateField;
 use crate::fields::PlateFields;

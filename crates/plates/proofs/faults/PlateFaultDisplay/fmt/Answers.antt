@@ -1,4 +1,4 @@
-use Rattle.runout.proofs.faults.PlateFaultDisplay.fmt.Needs as need
+use Rattle.plates.proofs.faults.PlateFaultDisplay.fmt.Needs as need
 
 pub returns-in-OutOfRange : need.returns-in-OutOfRange
 returns-in-OutOfRange g c =

@@ -2,7 +2,7 @@
 ghost use mathlib.Core.Path.{_≡_};
 ghost use lib.IntN.{pos};
 ghost use Rattle.std.specs.declared.option.Option.the-variants.{Some};
-ghost use Rattle.runout.specs.Fields.{plate-fields, field-number, field-name, range-of, Ranged, given, in-order, in-range, In-range, first-outside};
+ghost use Rattle.plates.specs.Fields.{plate-fields, field-number, field-name, range-of, Ranged, given, in-order, in-range, In-range, first-outside};
 use std::fmt;
 
 // The numbers of a plate, of any value. Lengths are in nm, times in ms, speeds in nm per ms, accelerations in nm per ms per ms.

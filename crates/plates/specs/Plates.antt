@@ -7,11 +7,11 @@ use Rattle.std.specs.shelf.Lists.{All}
 use Rattle.std.specs.declared.option.Option.{Option}
 use Rattle.refusals.specs.Refusals.{Refusal}
 use Rattle.refusals.specs.Answers.{first-of, or-else}
-use Rattle.runout.specs.declared.fields.PlateFields.{PlateFields}
-use Rattle.runout.specs.declared.faults.PlateFault.the-variants.{OutOfRange, WeakBraking, SpeedUnknown}
-use Rattle.runout.specs.declared.plates.Plate.{Plate}
-use Rattle.runout.specs.Fields.{plate-fields, In-range, first-outside}
-use Rattle.runout.specs.Faults.{plate-fault}
+use Rattle.plates.specs.declared.fields.PlateFields.{PlateFields}
+use Rattle.plates.specs.declared.faults.PlateFault.the-variants.{OutOfRange, WeakBraking, SpeedUnknown}
+use Rattle.plates.specs.declared.plates.Plate.{Plate}
+use Rattle.plates.specs.Fields.{plate-fields, In-range, first-outside}
+use Rattle.plates.specs.Faults.{plate-fault}
 
 -- The first refusal of numbers that are each in range: real braking, which is brake less drive error, below 50; a speed error that is not below the top speed.
 abbrev pub unrelated : PlateFields → Option Refusal
