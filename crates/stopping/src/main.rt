@@ -1,12 +1,10 @@
 // Reads the nine numbers of a plate and then lines with a speed and an acceleration, and writes what comes of each.
 mod answers;
-mod reading;
 
 use answers::AnswerDisplay;
 use answers::Refused;
 use answers::RefusedDisplay;
 use answers::ask;
-use reading::numbers;
 use runout::Plate;
 use runout::PlateFaultDisplay;
 use runout::PlateFaultSays;
@@ -21,6 +19,19 @@ use std::io::ErrorKind;
 const USAGE: &str = "usage: stopping < INPUT
 The first line of INPUT is a plate, nine whole numbers: brake, pull, drive error, hold, speed error, place error, top speed, turn limit, half side.
 Each later line is a measured speed and an acceleration, two whole numbers. Numbers stand apart by blanks.";
+
+// The whole numbers of a line that has just so many, apart by blanks.
+fn numbers<const N: usize>(text: &str) -> Option<[i64; N]> {
+    let mut values = [0; N];
+    let mut words = text.split_whitespace();
+    for value in values.iter_mut() {
+        *value = words.next()?.parse::<i64>().ok()?;
+    }
+    match words.next() {
+        None => Some(values),
+        Some(_) => None,
+    }
+}
 
 // The text of a line. One that is not UTF-8 reads as empty: neither has numbers.
 fn text_of(rt: &LibcRuntime, line: io::Result<String>) -> io::Result<String> {
