@@ -8,7 +8,7 @@ use Rattle.std.specs.declared.option.Option.{Option}
 use Rattle.refusals.specs.Refusals.{Refusal}
 use Rattle.refusals.specs.Answers.{first-of, or-else}
 use Rattle.plates.specs.declared.fields.PlateFields.{PlateFields}
-use Rattle.plates.specs.declared.faults.PlateFault.the-variants.{OutOfRange, WeakBraking, SpeedUnknown}
+use Rattle.plates.specs.declared.faults.PlateFault.the-variants.{OutOfRange, WeakBraking, SpeedErrorTooLarge}
 use Rattle.plates.specs.declared.plates.Plate.{Plate}
 use Rattle.plates.specs.Fields.{plate-fields, In-range, first-outside}
 use Rattle.plates.specs.Faults.{plate-fault}
@@ -17,7 +17,7 @@ use Rattle.plates.specs.Faults.{plate-fault}
 abbrev pub unrelated : PlateFields → Option Refusal
 unrelated f = first-of (
     (leZ (pos 50) (f .brake -ℤ f .«drive_error»), plate-fault WeakBraking) ∷
-    (ltZ (f .«speed_error») (f .«top_speed»), plate-fault SpeedUnknown) ∷ [])
+    (ltZ (f .«speed_error») (f .«top_speed»), plate-fault SpeedErrorTooLarge) ∷ [])
 
 -- The first refusal of the nine numbers of a plate, if any: first the fields out of their range.
 abbrev pub plate-refused : PlateFields → Option Refusal
@@ -27,7 +27,7 @@ plate-refused f = or-else (mapped (λ field. plate-fault (OutOfRange field)) (fi
 pub record Sound (f : PlateFields) : Type 0 where
   pub ranged : All (In-range f) plate-fields
   pub braking : pos 50 ≤ℤ (f .brake -ℤ f .«drive_error»)
-  pub speed-known : f .«speed_error» <ℤ f .«top_speed»
+  pub speed-error : f .«speed_error» <ℤ f .«top_speed»
 
 -- the nine numbers that a plate holds
 abbrev pub held : Plate → PlateFields

@@ -17,7 +17,7 @@ pub enum PlateFault {
     // the real braking, brake less drive error, is below 50
     WeakBraking,
     // the speed error is not below the top speed
-    SpeedUnknown,
+    SpeedErrorTooLarge,
 }
 
 pub impl Fault for PlateFault as PlateFaultSays {
@@ -31,7 +31,7 @@ pub impl Fault for PlateFault as PlateFaultSays {
         match self {
             PlateFault::OutOfRange(_) => 11,
             PlateFault::WeakBraking => 12,
-            PlateFault::SpeedUnknown => 13,
+            PlateFault::SpeedErrorTooLarge => 13,
         }
     }
 }
@@ -47,7 +47,7 @@ pub impl fmt::Display for PlateFault as PlateFaultDisplay {
                 write!(f, "field {number}, {field}, is not from {low} to {high}")
             }
             PlateFault::WeakBraking => f.write_str("brake less drive error is below 50"),
-            PlateFault::SpeedUnknown => {
+            PlateFault::SpeedErrorTooLarge => {
                 f.write_str("the speed error is not below the top speed")
             }
         }

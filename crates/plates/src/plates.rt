@@ -29,5 +29,5 @@ pub struct Plate {
     ghost half_side_ranged: { Ranged HalfSide «half_side» },
     // the real braking, brake less drive error, is at least 50
     ghost real_braking: { «drive_error» + 50 ≤ brake },
-    ghost speed_known: { «speed_error» < «top_speed» },
+    ghost speed_error_below_top: { «speed_error» < «top_speed» },
 }

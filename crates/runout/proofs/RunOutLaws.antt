@@ -7,7 +7,7 @@ use lib.IntN.{ℤ, pos, natAbs, _+ℤ_}
 use Rattle.std.proofs.shelf.Bits.{mul-le}
 use Rattle.plates.specs.declared.plates.Plate.{Plate}
 use Rattle.runout.specs.declared.journeys.RunOut.{RunOut}
-use Rattle.runout.specs.Speeds.{course, slowing, Of}
+use Rattle.runout.specs.Speeds.{course, slowing, RunOutOf}
 use Rattle.runout.specs.RunOuts.{braking, speeds, settled, run-out, run-out-is}
 use Rattle.runout.proofs.Laws.{unique}
 use Rattle.runout.proofs.Summing.{summed}
@@ -23,18 +23,18 @@ module _ (p : Plate) (m a : ℤ) where
       omega (arith, mul-le k 1 k (braking p) (le-refl k) (omega (arith, p .«real_braking»)), mul-one k)
 
   -- The run-out is travel, time and peak of the speeds, in plain words.
-  pub run-out-right : Of (speeds p m a) (run-out p m a)
-  run-out-right = subst (Of (speeds p m a)) (sym (run-out-is p m a)) (summed (speeds p m a) (settled p m a) rests)
+  pub run-out-right : RunOutOf (speeds p m a) (run-out p m a)
+  run-out-right = subst (RunOutOf (speeds p m a)) (sym (run-out-is p m a)) (summed (speeds p m a) (settled p m a) rests)
 
   -- Whatever is travel, time and peak of the speeds is the run-out.
-  pub run-out-only : (out : RunOut) → Of (speeds p m a) out → out ≡ run-out p m a
+  pub run-out-only : (out : RunOut) → RunOutOf (speeds p m a) out → out ≡ run-out p m a
   run-out-only out r =
       let u = unique r run-out-right in
       λ i. record { travel = u .0 i; time = u .1 i; peak = u .2 i }
 
   -- the same, where the speeds are named in other terms
-  pub run-out-named : (hold : ℕ) (g : ℤ) (b v : ℕ) (out : RunOut) → hold ≡ p .hold → g ≡ a +ℤ pos (p .«drive_error») → b ≡ braking p → v ≡ natAbs m + p .«speed_error» → Of (course hold g b v) out → (out ≡ run-out p m a) × Of (speeds p m a) out
+  pub run-out-named : (hold : ℕ) (g : ℤ) (b v : ℕ) (out : RunOut) → hold ≡ p .hold → g ≡ a +ℤ pos (p .«drive_error») → b ≡ braking p → v ≡ natAbs m + p .«speed_error» → RunOutOf (course hold g b v) out → (out ≡ run-out p m a) × RunOutOf (speeds p m a) out
   run-out-named hold g b v out hs gs bs vs r =
       let named : course hold g b v ≡ speeds p m a = cc in
-      let is = subst (λ e. Of e out) named r in
+      let is = subst (λ e. RunOutOf e out) named r in
       (run-out-only out is, is)

@@ -17,7 +17,7 @@ use Rattle.plates.specs.Fields.{first-outside}
 use Rattle.runout.specs.Formulas.{rise-formula, fall-formula}
 use Rattle.plates.specs.Plates.{plate-refused, held}
 use Rattle.runout.specs.RunOuts.{braking, limits-refused, run-out-refused, run-out}
-use Rattle.runout.specs.Speeds.{course, Of}
+use Rattle.runout.specs.Speeds.{course, RunOutOf}
 use Rattle.runout.specs.WorkedSums.{worked-sums, Right}
 use Rattle.runout.proofs.Formulas.{rise-right, fall-right}
 use Rattle.runout.proofs.RunOutLaws.{run-out-only}
@@ -27,7 +27,7 @@ abbrev formula : (hold : ℕ) (g : ℤ) (b v : ℕ) → RunOut
 formula hold (pos step) b v = rise-formula hold step b v
 formula hold (negsuc less) b v = fall-formula hold (suc less) b v
 
-formula-right : (hold : ℕ) (g : ℤ) (b v : ℕ) → 0 < b → Of (course hold g b v) (formula hold g b v)
+formula-right : (hold : ℕ) (g : ℤ) (b v : ℕ) → 0 < b → RunOutOf (course hold g b v) (formula hold g b v)
 formula-right hold (pos step) b v brakes = rise-right hold step b v brakes
 formula-right hold (negsuc less) b v brakes = fall-right hold (suc less) b v brakes (omega arith)
 

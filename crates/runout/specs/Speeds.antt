@@ -88,6 +88,6 @@ pub record IsRunOut (e : ℕ → ℕ) (travel time peak : ℕ) : Type 0 where
   pub highest : (i : ℕ) → e i ≤ peak
   pub reached : (i : ℕ) × (e i ≡ peak)
 
--- the same, with the three numbers as one value
-abbrev pub Of : (ℕ → ℕ) → RunOut → Type 0
-Of e out = IsRunOut e (out .travel) (out .time) (out .peak)
+-- The same of the three numbers as one value: out is the run-out of the speeds e.
+abbrev pub RunOutOf : (ℕ → ℕ) → RunOut → Type 0
+RunOutOf e out = IsRunOut e (out .travel) (out .time) (out .peak)

@@ -5,7 +5,7 @@ ghost use lib.IntN.{pos, negℤ};
 ghost use lib.Signed.{_≤ℤ_};
 ghost use Rattle.std.specs.Vec.{made};
 ghost use Rattle.refusals.specs.Answers.{Answers};
-ghost use Rattle.runout.specs.Speeds.{Of};
+ghost use Rattle.runout.specs.Speeds.{RunOutOf};
 ghost use Rattle.runout.specs.Formulas.{evenly-spaced, stop-formula, rise-formula, fall-formula};
 ghost use Rattle.runout.specs.Faults.{run-out-fault};
 ghost use Rattle.runout.specs.RunOuts.{run-out-refused, speeds, run-out};
@@ -98,7 +98,7 @@ fn worst(plate: &Plate, speed: i64, acceleration: i64) -> RunOut
     requires speed { ⌜ pos 0 ≤ℤ speed ⌝ ∗ ⌜ speed ≤ℤ pos 10000000 ⌝ }
     requires acceleration { ⌜ negℤ (pos (now plate .brake)) ≤ℤ acceleration ⌝ ∗ ⌜ acceleration ≤ℤ pos (now plate .pull) ⌝ }
     ensures value { λ r. ⌜ r ≡ run-out (now (plate .entry)) speed acceleration ⌝ }
-    ensures is { λ r. ⌜ Of (speeds (now (plate .entry)) speed acceleration) r ⌝ }
+    ensures journey { λ r. ⌜ RunOutOf (speeds (now (plate .entry)) speed acceleration) r ⌝ }
     ensures small { λ r. ⌜ r .travel < 2 ^ 53 ⌝ ∗ ⌜ r .time < 2 ^ 26 ⌝ ∗ ⌜ r .peak < 2 ^ 25 ⌝ }
 {
     let start = speed as u64 + plate.speed_error();
@@ -115,7 +115,7 @@ fn worst(plate: &Plate, speed: i64, acceleration: i64) -> RunOut
 // The worst journey of a cart that is measured at a speed and held at an acceleration: the hold at the worst errors, then the brake at its weakest.
 pub fn run_out(plate: &Plate, speed: i64, acceleration: i64) -> Result<RunOut, RunOutFault>
     ensures answer { λ r. ⌜ Answers run-out-fault (run-out-refused (now (plate .entry)) speed acceleration) (λ out. out ≡ run-out (now (plate .entry)) speed acceleration) r ⌝ }
-    ensures is { λ r. ⌜ made r (Of (speeds (now (plate .entry)) speed acceleration)) ⌝ }
+    ensures journey { λ r. ⌜ made r (RunOutOf (speeds (now (plate .entry)) speed acceleration)) ⌝ }
     ensures small { λ r. ⌜ made r (λ out. (out .travel < 2 ^ 53) × (out .time < 2 ^ 26) × (out .peak < 2 ^ 25)) ⌝ }
 {
     if speed < 0 || speed > FASTEST {

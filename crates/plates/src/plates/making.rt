@@ -19,7 +19,7 @@ fn unrelated(fields: &PlateFields) -> Option<PlateFault>
     if fields.brake.saturating_sub(fields.drive_error) < LEAST_BRAKING {
         Some(PlateFault::WeakBraking)
     } else if fields.speed_error >= fields.top_speed {
-        Some(PlateFault::SpeedUnknown)
+        Some(PlateFault::SpeedErrorTooLarge)
     } else {
         None
     }

@@ -2,7 +2,7 @@ use mathlib.Core.Path.{_≡_, sym, subst}
 use Prim.Native.Nat.{_<_}
 use native.Mathlib.Omega.{arith}
 use Rattle.std.proofs.shelf.Signed.{ints}
-use Rattle.runout.specs.Speeds.{Of}
+use Rattle.runout.specs.Speeds.{RunOutOf}
 use Rattle.runout.proofs.Formulas.{rise-right, fall-right}
 use Rattle.runout.proofs.RunOutLaws.{run-out-named}
 use Rattle.runout.proofs.stopping.worst.Needs as need
@@ -11,12 +11,12 @@ pub returns-then-change-lt0 : need.returns-then-change-lt0
 returns-then-change-lt0 c =
     let out =
     run-out-named (c .args .plate .now) (c .args .speed) (c .args .acceleration) _ _ _ _ (c .falling .result) (omega arith) (omega (arith, ints)) (omega arith) (omega (arith, ints))
-    (subst (Of _) (sym (c .falling .ensures .value)) (fall-right _ _ _ _ (omega arith) (omega (arith, ints)))) in
-    record { value = out .0; is = out .1; small = c .falling .ensures .small }
+    (subst (RunOutOf _) (sym (c .falling .ensures .value)) (fall-right _ _ _ _ (omega arith) (omega (arith, ints)))) in
+    record { value = out .0; journey = out .1; small = c .falling .ensures .small }
 
 pub returns-else-change-lt0 : need.returns-else-change-lt0
 returns-else-change-lt0 c =
     let out =
     run-out-named (c .args .plate .now) (c .args .speed) (c .args .acceleration) _ _ _ _ (c .rising .result) (omega arith) (omega (arith, ints)) (omega arith) (omega (arith, ints))
-    (subst (Of _) (sym (c .rising .ensures .value)) (rise-right _ _ _ _ (omega arith))) in
-    record { value = out .0; is = out .1; small = c .rising .ensures .small }
+    (subst (RunOutOf _) (sym (c .rising .ensures .value)) (rise-right _ _ _ _ (omega arith))) in
+    record { value = out .0; journey = out .1; small = c .rising .ensures .small }

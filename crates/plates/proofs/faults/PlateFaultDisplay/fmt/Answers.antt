@@ -8,5 +8,5 @@ returns-in-OutOfRange g c =
 pub returns-in-WeakBraking : need.returns-in-WeakBraking
 returns-in-WeakBraking g c = simp (c .in-WeakBraking .is) (c .write-str .ensures .prints)
 
-pub returns-in-SpeedUnknown : need.returns-in-SpeedUnknown
-returns-in-SpeedUnknown g c = simp (c .in-SpeedUnknown .is) (c .write-str-in-SpeedUnknown .ensures .prints)
+pub returns-in-SpeedErrorTooLarge : need.returns-in-SpeedErrorTooLarge
+returns-in-SpeedErrorTooLarge g c = simp (c .in-SpeedErrorTooLarge .is) (c .write-str-in-SpeedErrorTooLarge .ensures .prints)

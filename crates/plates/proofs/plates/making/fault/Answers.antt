@@ -15,7 +15,7 @@ use Rattle.plates.proofs.Outside.{all-inside}
 use Rattle.plates.proofs.plates.making.fault.Needs as need
 
 sound : (f : PlateFields) (r : Option PlateFault) → All (In-range f) plate-fields → mapped plate-fault r ≡ unrelated f → Cases r (Sound f) (λ _. Unit {0})
-sound f None inside told = record { ranged = inside; braking = grind (arith, ints); speed-known = grind (arith, ints) }
+sound f None inside told = record { ranged = inside; braking = grind (arith, ints); speed-error = grind (arith, ints) }
 sound f (Some fault) inside told = tt
 
 pub returns-in-None : need.returns-in-None
