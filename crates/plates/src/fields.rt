@@ -1,6 +1,7 @@
 // The nine numbers of a plate, as they are given.
 ghost use mathlib.Core.Path.{_≡_};
 ghost use lib.IntN.{pos};
+ghost use lib.ListN.{length};
 ghost use Rattle.std.specs.declared.option.Option.the-variants.{Some};
 ghost use Rattle.plates.specs.Fields.{plate-fields, field-number, field-name, range-of, Ranged, given, in-order, in-range, In-range, first-outside};
 use std::fmt;
@@ -109,7 +110,8 @@ pub impl fmt::Display for PlateField as PlateFieldDisplay {
 impl PlateFields {
     // Nine numbers in the order of the fields.
     pub fn in_order(numbers: [i64; 9]) -> PlateFields
-        ensures { λ r. ⌜ r ≡ in-order numbers ⌝ }
+        ensures fields { λ r. ⌜ r ≡ in-order numbers ⌝ }
+        ensures all { λ _. ⌜ length numbers ≡ 9 ⌝ }
     {
         PlateFields {
             brake: numbers[0],
