@@ -8,7 +8,6 @@ use lib.ListN.{length, getD, drop}
 use Rattle.std.proofs.shelf.Signed.{ints}
 use Rattle.std.proofs.shelf.Lists.{at-drop-more, at-drop-all}
 use Rattle.std.specs.shelf.Lists.{All}
-use Rattle.std.specs.declared.option.Option.{Option}
 use Rattle.std.specs.declared.option.Option.the-variants.{Some, None}
 use Rattle.plates.specs.declared.fields.PlateField.{PlateField}
 use Rattle.plates.specs.declared.fields.PlateFields.{PlateFields}

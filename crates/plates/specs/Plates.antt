@@ -14,14 +14,14 @@ use Rattle.plates.specs.Fields.{plate-fields, In-range, first-outside}
 use Rattle.plates.specs.Faults.{plate-fault}
 
 -- The first refusal of numbers that are each in range: real braking, which is brake less drive error, below 50; a speed error that is not below the top speed.
-abbrev pub unrelated : PlateFields → Option Refusal
-unrelated f = first-of (
+abbrev pub relation-refused : PlateFields → Option Refusal
+relation-refused f = first-of (
     (leZ (pos 50) (f .brake -ℤ f .«drive_error»), plate-fault WeakBraking) ∷
     (ltZ (f .«speed_error») (f .«top_speed»), plate-fault SpeedErrorTooLarge) ∷ [])
 
 -- The first refusal of the nine numbers of a plate, if any: first the fields out of their range.
 abbrev pub plate-refused : PlateFields → Option Refusal
-plate-refused f = or-else (mapped (λ field. plate-fault (OutOfRange field)) (first-outside f plate-fields)) (unrelated f)
+plate-refused f = or-else (mapped (λ field. plate-fault (OutOfRange field)) (first-outside f plate-fields)) (relation-refused f)
 
 -- numbers of which a plate can be made
 pub record Sound (f : PlateFields) : Type 0 where

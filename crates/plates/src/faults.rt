@@ -1,5 +1,4 @@
 // Why there is no plate.
-ghost use mathlib.Core.Path.{_≡_};
 ghost use Rattle.std.specs.declared.option.Option.the-variants.{Some};
 ghost use Rattle.plates.specs.Faults.{plate-fault, plate-words};
 use crate::fields::PlateField;

@@ -1,11 +1,11 @@
 -- What is known of the braking travel. Assumes nothing.
-use mathlib.Core.Path.{_≡_, refl, sym, ap, subst, _∙_}
+use mathlib.Core.Path.{_≡_, refl, sym, ap, _∙_}
 use Prim.Native.Nat.{ℕ, zero, suc, _+_, _-_, _*_, _/_, _%_, _≤_, _<_, min}
 use native.Mathlib.Nat.{zero-mul, suc-mul, mod-add-div', mod-lt}
 use native.Mathlib.Omega.{arith}
-use Rattle.runout.specs.Speeds.{slowing, travelled, IsRunOut}
+use Rattle.runout.specs.Speeds.{slowing, IsRunOut}
 use Rattle.runout.specs.Brake.{brake-travel, brake-travel-rest, brake-travel-next}
-use Rattle.runout.proofs.Laws.{slower, within}
+use Rattle.runout.proofs.Laws.{travelled-slower, travelled-within}
 use Rattle.runout.proofs.Ramps.{same, climb, climb-is, stops}
 
 module _ (b : ℕ) (brakes : 0 < b) where
@@ -31,7 +31,7 @@ module _ (b : ℕ) (brakes : 0 < b) where
         steps r k h,
       )
 
-  pub brake-climb : (w : ℕ) → brake-travel w b ≡ climb (w % b) b (w / b) + w % b
+  brake-climb : (w : ℕ) → brake-travel w b ≡ climb (w % b) b (w / b) + w % b
   brake-climb w = ap (λ x. brake-travel x b) (sym (mod-add-div' w b)) ∙ steps (w % b) (w / b) (mod-lt w brakes)
 
   -- It is the travel of speeds that fall by b from w on; they rest after w / b ms, rounded up.
@@ -46,4 +46,4 @@ module _ (b : ℕ) (brakes : 0 < b) where
   pub brake-travel-more : (w w′ : ℕ) → w ≤ w′ → brake-travel w b ≤ brake-travel w′ b
   brake-travel-more w w′ h =
       let t = w / b + min 1 (w % b) in
-      omega (arith, brake-run w .whole t (omega arith), slower (slowing w b) (slowing w′ b) (λ i. omega arith) t, within (brake-run w′) t)
+      omega (arith, brake-run w .whole t (omega arith), travelled-slower (slowing w b) (slowing w′ b) (λ i. omega arith) t, travelled-within (brake-run w′) t)

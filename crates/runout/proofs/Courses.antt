@@ -1,14 +1,34 @@
 -- The speeds of a hold and the brake after it, as ramps. Assumes nothing.
 use mathlib.Core.Path.{_≡_, refl, sym, _∙_, ap}
-use mathlib.Core.Logic.{_⊎_, inl, inr}
+use mathlib.Core.Bool.{cond}
+use mathlib.Core.Logic.{inl, inr}
 use Prim.Native.Nat.{ℕ, zero, suc, _+_, _-_, _*_, _≤_, _<_}
 use native.Mathlib.Nat.{add-zero, add-suc, suc-mul, zero-mul, le-refl}
 use native.Mathlib.Omega.{arith}
+use lib.Dec.{ltb}
 use lib.IntN.{ℤ, pos, negℤ}
 use Rattle.std.proofs.shelf.Bits.{mul-le}
-use Rattle.std.proofs.shelf.Tests.{cases-lt}
-use Rattle.runout.specs.Speeds.{changed, course, course-first, course-held, course-braked, slowing, IsRunOut}
+use Rattle.std.proofs.shelf.Tests.{cases-lt, cond-true, cond-false, lt-ltb, le-ltb}
+use Rattle.runout.specs.Speeds.{changed, slowing, IsRunOut}
 use Rattle.runout.proofs.Ramps.{same, none, climb, rises, falls}
+
+-- The speed at each ms from v on: it changes by g in each ms below hold, and falls by b in each ms from hold on. It does not fall below 0; nor does `-`.
+unfoldable pub course : (hold : ℕ) (g : ℤ) (b v : ℕ) → ℕ → ℕ
+course hold g b v zero = v
+course hold g b v (suc i) = cond (ltb i hold) (changed (course hold g b v i) g) (course hold g b v i - b)
+
+module _ (hold : ℕ) (g : ℤ) (b v : ℕ) where
+  pub course-first : course hold g b v 0 ≡ v
+  unfolding course
+  course-first = refl
+
+  pub course-held : (i : ℕ) → i < hold → course hold g b v (suc i) ≡ changed (course hold g b v i) g
+  unfolding course
+  course-held i h = cond-true (ltb i hold) _ _ (lt-ltb i hold h)
+
+  pub course-braked : (i : ℕ) → hold ≤ i → course hold g b v (suc i) ≡ course hold g b v i - b
+  unfolding course
+  course-braked i h = cond-false (ltb i hold) _ _ (le-ltb i hold h)
 
 module _ (hold : ℕ) (g : ℤ) (b v : ℕ) where
   -- the brake after the hold

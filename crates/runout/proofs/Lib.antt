@@ -1,8 +1,9 @@
 pub mod Laws
+pub mod BrakeLaws
+pub mod RunOutLaws
 mod Summing
 mod Ramps
 mod Courses
-mod Formulas
+mod Closed
+mod Composed
 mod WorkedSums
-pub mod BrakeLaws
-pub mod RunOutLaws

@@ -1,6 +1,5 @@
 -- The worked sums are right: the closed formula is computed at each row. Assumes nothing.
 use mathlib.Core.Path.{_≡_, refl, sym, ap, subst, _∙_}
-use mathlib.Core.Bool.{cond}
 use mathlib.Core.List.{List, [], _∷_, map}
 use Prim.Native.Nat.{ℕ, suc, _+_, _-_, _<_}
 use native.Mathlib.Omega.{arith}
@@ -10,17 +9,18 @@ use Rattle.std.specs.declared.option.Option.{Option}
 use Rattle.std.specs.declared.option.Option.the-variants.{None}
 use Rattle.refusals.specs.Refusals.{Refusal}
 use Rattle.plates.specs.declared.fields.PlateFields.{PlateFields}
-use Rattle.runout.specs.declared.journeys.RunOut.{RunOut}
+use Rattle.runout.specs.declared.run_outs.RunOut.{RunOut}
 use Rattle.plates.specs.declared.plates.Plate.{Plate}
-use Rattle.runout.specs.declared.worked.WorkedSum.{WorkedSum}
+use Rattle.runout.specs.declared.sums.WorkedSum.{WorkedSum}
 use Rattle.plates.specs.Fields.{first-outside}
 use Rattle.runout.specs.Formulas.{rise-formula, fall-formula}
 use Rattle.plates.specs.Plates.{plate-refused, held}
 use Rattle.runout.specs.RunOuts.{braking, limits-refused, run-out-refused, run-out}
-use Rattle.runout.specs.Speeds.{course, RunOutOf}
+use Rattle.runout.specs.Speeds.{RunOutOf}
 use Rattle.runout.specs.WorkedSums.{worked-sums, Right}
-use Rattle.runout.proofs.Formulas.{rise-right, fall-right}
-use Rattle.runout.proofs.RunOutLaws.{run-out-only}
+use Rattle.runout.proofs.Closed.{rise-right, fall-right}
+use Rattle.runout.proofs.Composed.{run-out-named}
+use Rattle.runout.proofs.Courses.{course}
 
 -- the closed formula, by the sign of the change in the hold
 abbrev formula : (hold : ℕ) (g : ℤ) (b v : ℕ) → RunOut
@@ -44,7 +44,7 @@ module _ (p : Plate) (m a : ℤ) where
   computes : (f : PlateFields) → held p ≡ f → (run-out-refused p m a ≡ by-limits f m a) × (run-out p m a ≡ by-formula f m a)
   computes f holds =
       subst (λ f. (run-out-refused p m a ≡ by-limits f m a) × (run-out p m a ≡ by-formula f m a)) holds
-      (refl, sym (run-out-only p m a (by-formula (held p) m a) (formula-right (p .hold) _ (braking p) _ (omega (arith, p .«real_braking»)))))
+      (refl, sym (run-out-named p m a _ _ _ _ (by-formula (held p) m a) refl refl refl refl (formula-right (p .hold) _ (braking p) _ (omega (arith, p .«real_braking»))) .0))
 
 -- what is computed of a row, and what it should be
 abbrev found : WorkedSum → Option Refusal × (Option Refusal × RunOut)

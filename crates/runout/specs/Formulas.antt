@@ -1,8 +1,8 @@
--- The closed formulas of a run-out: travel, time and peak with no sum over ms. Assumes nothing.
+-- The closed formulas of a run-out: travel, time and peak with no sum over ms. They are what the code computes and are proved equal to the run-out; no public contract rests on them. Assumes nothing.
 use mathlib.Core.Bool.{cond}
 use Prim.Native.Nat.{ℕ, _+_, _-_, _*_, _/_, _%_, min}
 use lib.Dec.{eqb, leb}
-use Rattle.runout.specs.declared.journeys.RunOut.{RunOut}
+use Rattle.runout.specs.declared.run_outs.RunOut.{RunOut}
 
 -- the sum of count numbers that are evenly spaced from first to last
 abbrev pub evenly-spaced : (count first last : ℕ) → ℕ
@@ -16,7 +16,7 @@ stop-formula v rate = record {
   peak = v;
 }
 
--- A hold whose speeds, but for the slower of its first and last, are evenly spaced from first to last; then a stop from end at the braking b.
+-- A hold, where the larger speeds of its ms are evenly spaced from first to last; then a stop from end at the braking b.
 abbrev pub hold-formula : (hold first last end b peak : ℕ) → RunOut
 hold-formula hold first last end b peak = record {
   travel = evenly-spaced hold first last + stop-formula end b .travel;

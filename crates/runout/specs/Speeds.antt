@@ -1,36 +1,16 @@
--- The speeds of a cart, one for each ms, and what they come to: travel, time and peak.
+-- What speeds, one for each ms, come to: travel, time and peak.
 -- Lengths are in nm, speeds in nm per ms, changes of speed in nm per ms per ms. Assumes nothing.
 use mathlib.Core.Path.{_≡_, refl}
 use mathlib.Core.Bool.{cond}
-use Prim.Native.Nat.{ℕ, zero, suc, _+_, _-_, _*_, _≤_, _<_, max}
-use lib.Dec.{ltb, eqb}
+use Prim.Native.Nat.{ℕ, zero, suc, _+_, _-_, _*_, _≤_, max}
+use lib.Dec.{eqb}
 use lib.IntN.{ℤ, pos, negsuc}
-use Rattle.runout.specs.declared.journeys.RunOut.{RunOut}
-use Rattle.std.proofs.shelf.Tests.{cond-true, cond-false, lt-ltb, le-ltb}
+use Rattle.runout.specs.declared.run_outs.RunOut.{RunOut}
 
 -- the larger of 0 and v + g
 abbrev pub changed : ℕ → ℤ → ℕ
 changed v (pos n) = v + n
 changed v (negsuc n) = v - suc n
-
--- The speed at each ms from v on: it changes by g in each ms below hold, and falls by b in each ms from hold on. It does not fall below 0; nor does `-`.
-pub course : (hold : ℕ) (g : ℤ) (b v : ℕ) → ℕ → ℕ
-course hold g b v zero = v
-course hold g b v (suc i) = cond (ltb i hold) (changed (course hold g b v i) g) (course hold g b v i - b)
-
--- What is known of `course` elsewhere: the speed at 0, its step in the hold, and its step under the brake.
-module _ (hold : ℕ) (g : ℤ) (b v : ℕ) where
-  pub course-first : course hold g b v 0 ≡ v
-  unfolding course
-  course-first = refl
-
-  pub course-held : (i : ℕ) → i < hold → course hold g b v (suc i) ≡ changed (course hold g b v i) g
-  unfolding course
-  course-held i h = cond-true (ltb i hold) _ _ (lt-ltb i hold h)
-
-  pub course-braked : (i : ℕ) → hold ≤ i → course hold g b v (suc i) ≡ course hold g b v i - b
-  unfolding course
-  course-braked i h = cond-false (ltb i hold) _ _ (le-ltb i hold h)
 
 -- the speed at each ms from v on, where it falls by rate in each
 abbrev pub slowing : (v rate : ℕ) → ℕ → ℕ
@@ -41,10 +21,10 @@ pub travelled : (ℕ → ℕ) → ℕ → ℕ
 travelled e zero = 0
 travelled e (suc n) = travelled e n + max (e n) (e (suc n))
 
--- One past the last of the first n ms whose speed is above 0, or 0.
-pub moving : (ℕ → ℕ) → ℕ → ℕ
-moving e zero = 0
-moving e (suc n) = cond (eqb (e n) 0) (moving e n) (suc n)
+-- The time at which the speeds of the first n ms come to rest: one past the last that is above 0, or 0.
+pub rest-time : (ℕ → ℕ) → ℕ → ℕ
+rest-time e zero = 0
+rest-time e (suc n) = cond (eqb (e n) 0) (rest-time e n) (suc n)
 
 -- The largest speed from ms 0 to ms n.
 pub largest : (ℕ → ℕ) → ℕ → ℕ
@@ -61,13 +41,13 @@ module _ (e : ℕ → ℕ) where
   unfolding travelled
   travelled-next n = refl
 
-  pub moving-none : moving e 0 ≡ 0
-  unfolding moving
-  moving-none = refl
+  pub rest-time-none : rest-time e 0 ≡ 0
+  unfolding rest-time
+  rest-time-none = refl
 
-  pub moving-next : (n : ℕ) → moving e (suc n) ≡ cond (eqb (e n) 0) (moving e n) (suc n)
-  unfolding moving
-  moving-next n = refl
+  pub rest-time-next : (n : ℕ) → rest-time e (suc n) ≡ cond (eqb (e n) 0) (rest-time e n) (suc n)
+  unfolding rest-time
+  rest-time-next n = refl
 
   pub largest-none : largest e 0 ≡ e 0
   unfolding largest

@@ -6,7 +6,7 @@ use lib.IntN.{ℤ, pos, negℤ}
 use Rattle.std.specs.declared.option.Option.the-variants.{None}
 use Rattle.plates.specs.declared.fields.PlateFields.{PlateFields}
 use Rattle.plates.specs.declared.plates.Plate.{Plate}
-use Rattle.runout.specs.declared.worked.WorkedSum.{WorkedSum}
+use Rattle.runout.specs.declared.sums.WorkedSum.{WorkedSum}
 use Rattle.plates.specs.Plates.{plate-refused, held}
 use Rattle.runout.specs.RunOuts.{run-out-refused, run-out}
 

@@ -1,5 +1,4 @@
 // Why there is no run-out.
-ghost use mathlib.Core.Path.{_≡_};
 ghost use Rattle.std.specs.declared.option.Option.the-variants.{Some};
 ghost use Rattle.runout.specs.Faults.{run-out-fault, run-out-words};
 use refusals::Fault;

@@ -1,14 +1,13 @@
 // The run-out of a cart: the worst journey that a proposal allows. What it needs of the layers below is named here too.
 mod faults;
-mod journeys;
-mod stopping;
+mod formulas;
+mod run_outs;
 mod sums;
-mod worked;
 
 pub use faults::RunOutFault;
 pub use faults::RunOutFaultDisplay;
 pub use faults::RunOutFaultSays;
-pub use journeys::RunOut;
+pub use formulas::run_out;
 pub use plates::Plate;
 pub use plates::PlateFault;
 pub use plates::PlateFaultDisplay;
@@ -20,6 +19,6 @@ pub use plates::Range;
 pub use refusals::Fault;
 pub use refusals::Layer;
 pub use refusals::LayerDisplay;
-pub use stopping::run_out;
+pub use run_outs::RunOut;
+pub use sums::WorkedSum;
 pub use sums::worked_sums;
-pub use worked::WorkedSum;

@@ -2,9 +2,17 @@
 ghost use mathlib.Core.Path.{_≡_};
 ghost use Rattle.std.specs.shelf.Lists.{All};
 ghost use Rattle.runout.specs.WorkedSums.{worked-sums, Right};
-use crate::journeys::RunOut;
-use crate::worked::WorkedSum;
+use crate::run_outs::RunOut;
 use plates::PlateFields;
+
+// The numbers of a plate, a measured speed and an acceleration, and the run-out that they give.
+#[derive(Clone, Copy)]
+pub struct WorkedSum {
+    pub fields: PlateFields,
+    pub speed: i64,
+    pub acceleration: i64,
+    pub out: RunOut,
+}
 
 const SAMPLE: PlateFields = PlateFields {
     brake: 1_200,
@@ -41,8 +49,8 @@ macro_rules! row {
     };
 }
 
-// The table as it was worked out, which is right.
-fn proved(table: [WorkedSum; 7]) -> [WorkedSum; 7]
+// The table, which is right as it was worked out.
+fn checked(table: [WorkedSum; 7]) -> [WorkedSum; 7]
     requires { ⌜ table ≡ worked-sums ⌝ }
     ensures table { λ r. ⌜ r ≡ worked-sums ⌝ }
     ensures right { λ r. ⌜ All Right r ⌝ }
@@ -55,7 +63,7 @@ pub fn worked_sums() -> [WorkedSum; 7]
     ensures table { λ r. ⌜ r ≡ worked-sums ⌝ }
     ensures right { λ r. ⌜ All Right r ⌝ }
 {
-    proved([
+    checked([
         row!(SAMPLE, 990_000, -200 => 600_500_000, 1_100, 1_000_000),
         row!(SAMPLE, 990_000, 600 => 687_780_000, 1_180, 1_080_000),
         row!(SAMPLE, 30_000, -1_200 => 820_000, 40, 40_000),

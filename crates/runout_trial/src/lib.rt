@@ -18,6 +18,18 @@ mod tests {
     use runout::worked_sums;
     use std::test::*;
 
+    const NUMBERS: [i64; 9] = [
+        1_200,
+        800,
+        200,
+        100,
+        10_000,
+        20_000_000,
+        2_000_000,
+        500,
+        400_000_000,
+    ];
+
     const SAMPLE: PlateFields = PlateFields {
         brake: 1_200,
         pull: 800,
@@ -125,100 +137,35 @@ mod tests {
         Ok(())
     }
 
+    // The sample plate with another number in one place.
+    fn with(at: usize, value: i64) -> PlateFields {
+        let mut numbers = NUMBERS;
+        if at < 9 {
+            numbers[at] = value;
+        }
+        PlateFields::in_order(numbers)
+    }
+
     #[test]
     fn each_field_is_refused_beyond_its_range() -> Result<(), Fail> {
-        // one below the least and one above the greatest value of each field, in their order
-        let beyond = [
-            (
-                PlateFields {
-                    brake: 49,
-                    ..SAMPLE
-                },
-                PlateFields {
-                    brake: 20_001,
-                    ..SAMPLE
-                },
-            ),
-            (
-                PlateFields { pull: -1, ..SAMPLE },
-                PlateFields {
-                    pull: 10_001,
-                    ..SAMPLE
-                },
-            ),
-            (
-                PlateFields {
-                    drive_error: -1,
-                    ..SAMPLE
-                },
-                PlateFields {
-                    drive_error: 19_951,
-                    ..SAMPLE
-                },
-            ),
-            (
-                PlateFields { hold: 0, ..SAMPLE },
-                PlateFields {
-                    hold: 501,
-                    ..SAMPLE
-                },
-            ),
-            (
-                PlateFields {
-                    speed_error: -1,
-                    ..SAMPLE
-                },
-                PlateFields {
-                    speed_error: 1_000_001,
-                    ..SAMPLE
-                },
-            ),
-            (
-                PlateFields {
-                    place_error: -1,
-                    ..SAMPLE
-                },
-                PlateFields {
-                    place_error: 1_000_000_001,
-                    ..SAMPLE
-                },
-            ),
-            (
-                PlateFields {
-                    top_speed: 0,
-                    ..SAMPLE
-                },
-                PlateFields {
-                    top_speed: 5_000_001,
-                    ..SAMPLE
-                },
-            ),
-            (
-                PlateFields {
-                    turn_limit: 0,
-                    ..SAMPLE
-                },
-                PlateFields {
-                    turn_limit: 10_001,
-                    ..SAMPLE
-                },
-            ),
-            (
-                PlateFields {
-                    half_side: -1,
-                    ..SAMPLE
-                },
-                PlateFields {
-                    half_side: 5_000_000_001,
-                    ..SAMPLE
-                },
-            ),
+        let ranges = [
+            (50, 20_000),
+            (0, 10_000),
+            (0, 19_950),
+            (1, 500),
+            (0, 1_000_000),
+            (0, 1_000_000_000),
+            (1, 5_000_000),
+            (1, 10_000),
+            (0, 5_000_000_000),
         ];
+        let mut at: usize = 0;
         let mut field: u8 = 0;
-        for (below, above) in beyond {
+        for (least, greatest) in ranges {
             field = field.saturating_add(1);
-            check_eq(refused(below), (11, field))?;
-            check_eq(refused(above), (11, field))?;
+            check_eq(refused(with(at, least - 1)), (11, field))?;
+            check_eq(refused(with(at, greatest + 1)), (11, field))?;
+            at = at.saturating_add(1);
         }
         Ok(())
     }
@@ -257,24 +204,18 @@ mod tests {
             drive_error: 1_151,
             ..SAMPLE
         };
-        let blind = PlateFields {
+        let unsure = PlateFields {
             speed_error: 1_000_000,
             top_speed: 1_000_000,
             ..SAMPLE
         };
-        check_eq(
-            refused(PlateFields {
-                drive_error: 1_150,
-                ..SAMPLE
-            }),
-            (0, 0),
-        )?;
+        check_eq(refused(with(2, 1_150)), (0, 0))?;
         check_eq(refused(weak), (12, 0))?;
-        check_eq(refused(blind), (13, 0))?;
+        check_eq(refused(unsure), (13, 0))?;
         check_eq(
             refused(PlateFields {
                 top_speed: 1_000_001,
-                ..blind
+                ..unsure
             }),
             (0, 0),
         )?;
@@ -282,7 +223,7 @@ mod tests {
         check_eq(
             refused(PlateFields {
                 drive_error: 1_151,
-                ..blind
+                ..unsure
             }),
             (12, 0),
         )?;

@@ -8,7 +8,7 @@ use Rattle.std.specs.declared.result.Result.{Result}
 use Rattle.std.specs.declared.result.Result.the-variants.{Ok, Err}
 use Rattle.refusals.specs.Refusals.{Refusal, layer-name}
 use Rattle.runout.specs.declared.faults.RunOutFault.{RunOutFault}
-use Rattle.runout.specs.declared.journeys.RunOut.{RunOut}
+use Rattle.runout.specs.declared.run_outs.RunOut.{RunOut}
 use Rattle.runout.specs.Faults.{run-out-fault, run-out-words}
 
 -- `refused 33 (gate): ` and the words

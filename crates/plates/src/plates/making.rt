@@ -3,7 +3,7 @@ ghost use mathlib.Core.Path.{_≡_};
 ghost use Rattle.std.specs.Options.{Cases, mapped};
 ghost use Rattle.refusals.specs.Answers.{Answers};
 ghost use Rattle.plates.specs.Faults.{plate-fault};
-ghost use Rattle.plates.specs.Plates.{unrelated, plate-refused, Sound, held};
+ghost use Rattle.plates.specs.Plates.{relation-refused, plate-refused, Sound, held};
 use crate::faults::PlateFault;
 use crate::fields::PlateField;
 use crate::fields::PlateFields;
@@ -13,8 +13,8 @@ use crate::plates::Plate;
 const LEAST_BRAKING: i64 = 50;
 
 // Why numbers that are each in range make no plate.
-fn unrelated(fields: &PlateFields) -> Option<PlateFault>
-    ensures { λ r. ⌜ mapped plate-fault r ≡ unrelated (now (fields .entry)) ⌝ }
+fn relation_fault(fields: &PlateFields) -> Option<PlateFault>
+    ensures { λ r. ⌜ mapped plate-fault r ≡ relation-refused (now (fields .entry)) ⌝ }
 {
     if fields.brake.saturating_sub(fields.drive_error) < LEAST_BRAKING {
         Some(PlateFault::WeakBraking)
@@ -32,7 +32,7 @@ fn fault(fields: &PlateFields) -> Option<PlateFault>
 {
     match fields.first_outside() {
         Some(field) => Some(PlateFault::OutOfRange(field)),
-        None => unrelated(fields),
+        None => relation_fault(fields),
     }
 }
 

@@ -1,8 +1,5 @@
-use mathlib.Core.Path.{_≡_, refl, sym, ap, _∙_}
-use mathlib.Core.Bool.{cond}
-use Rattle.std.specs.declared.option.Option.the-variants.{Some}
+use mathlib.Core.Path.{sym}
 use Rattle.plates.specs.declared.fields.PlateField.the-variants.{Brake}
-use Rattle.plates.specs.Fields.{first-outside}
 use Rattle.plates.proofs.Outside.{outside-next, outside-none}
 use Rattle.plates.proofs.fields.PlateFields.first_outside_of.Needs as need
 

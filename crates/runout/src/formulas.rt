@@ -1,6 +1,6 @@
 // The run-out: how far, how long and how fast a cart may go, through a hold at one acceleration and then under the brake to rest.
 ghost use mathlib.Core.Path.{_≡_};
-ghost use Prim.Native.Nat.{ℕ, _+_, _*_, _/_, _^_, _<_, _≤_};
+ghost use Prim.Native.Nat.{_+_, _*_, _/_, _^_, _<_, _≤_};
 ghost use lib.IntN.{pos, negℤ};
 ghost use lib.Signed.{_≤ℤ_};
 ghost use Rattle.std.specs.Vec.{made};
@@ -8,9 +8,9 @@ ghost use Rattle.refusals.specs.Answers.{Answers};
 ghost use Rattle.runout.specs.Speeds.{RunOutOf};
 ghost use Rattle.runout.specs.Formulas.{evenly-spaced, stop-formula, rise-formula, fall-formula};
 ghost use Rattle.runout.specs.Faults.{run-out-fault};
-ghost use Rattle.runout.specs.RunOuts.{run-out-refused, speeds, run-out};
+ghost use Rattle.runout.specs.RunOuts.{run-out-refused, speeds, run-out, HoldThenBrake};
 use crate::faults::RunOutFault;
-use crate::journeys::RunOut;
+use crate::run_outs::RunOut;
 use plates::Plate;
 
 // No cart is measured faster, in nm per ms.
@@ -99,6 +99,7 @@ fn worst(plate: &Plate, speed: i64, acceleration: i64) -> RunOut
     requires acceleration { ⌜ negℤ (pos (now plate .brake)) ≤ℤ acceleration ⌝ ∗ ⌜ acceleration ≤ℤ pos (now plate .pull) ⌝ }
     ensures value { λ r. ⌜ r ≡ run-out (now (plate .entry)) speed acceleration ⌝ }
     ensures journey { λ r. ⌜ RunOutOf (speeds (now (plate .entry)) speed acceleration) r ⌝ }
+    ensures braked { λ r. ⌜ HoldThenBrake (now (plate .entry)) speed acceleration r ⌝ }
     ensures small { λ r. ⌜ r .travel < 2 ^ 53 ⌝ ∗ ⌜ r .time < 2 ^ 26 ⌝ ∗ ⌜ r .peak < 2 ^ 25 ⌝ }
 {
     let start = speed as u64 + plate.speed_error();
@@ -116,6 +117,7 @@ fn worst(plate: &Plate, speed: i64, acceleration: i64) -> RunOut
 pub fn run_out(plate: &Plate, speed: i64, acceleration: i64) -> Result<RunOut, RunOutFault>
     ensures answer { λ r. ⌜ Answers run-out-fault (run-out-refused (now (plate .entry)) speed acceleration) (λ out. out ≡ run-out (now (plate .entry)) speed acceleration) r ⌝ }
     ensures journey { λ r. ⌜ made r (RunOutOf (speeds (now (plate .entry)) speed acceleration)) ⌝ }
+    ensures braked { λ r. ⌜ made r (HoldThenBrake (now (plate .entry)) speed acceleration) ⌝ }
     ensures small { λ r. ⌜ made r (λ out. (out .travel < 2 ^ 53) × (out .time < 2 ^ 26) × (out .peak < 2 ^ 25)) ⌝ }
 {
     if speed < 0 || speed > FASTEST {

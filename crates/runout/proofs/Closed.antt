@@ -1,17 +1,15 @@
 -- The closed formulas are right. Assumes nothing.
 use mathlib.Core.Path.{_≡_, refl, sym}
-use mathlib.Core.Bool.{cond}
 use Prim.Native.Nat.{ℕ, _+_, _-_, _*_, _%_, _/_, _<_}
 use native.Mathlib.Nat.{mod-add-div'}
 use native.Mathlib.Omega.{arith}
 use lib.Dec.{eqb, leb}
 use lib.IntN.{pos, negℤ}
 use Rattle.std.proofs.shelf.Tests.{cond-both, eqb-true, eqb-false, leb-true, leb-false}
-use Rattle.runout.specs.declared.journeys.RunOut.{RunOut}
-use Rattle.runout.specs.Speeds.{course, slowing, RunOutOf}
+use Rattle.runout.specs.Speeds.{slowing, RunOutOf}
 use Rattle.runout.specs.Formulas.{stop-formula, rise-formula, fall-formula}
 use Rattle.runout.proofs.Ramps.{same, climb-is, stops}
-use Rattle.runout.proofs.Courses.{gains, loses, halts, rests}
+use Rattle.runout.proofs.Courses.{course, gains, loses, halts, rests}
 
 pub stop-right : (v rate : ℕ) → 0 < rate → RunOutOf (slowing v rate) (stop-formula v rate)
 stop-right v rate falls =
