@@ -1,0 +1,3 @@
+mod Edges
+pub mod BlockLaws
+pub mod SoundLaws

@@ -1,0 +1,31 @@
+// What is around a cart: kinds of thing, and surroundings as lists of claims with one question.
+mod asking;
+mod horizon;
+mod kinds;
+mod pairs;
+mod rosters;
+
+pub use asking::RefSurroundings;
+pub use asking::Surroundings;
+pub use asking::ask;
+pub use claims::Claim;
+pub use claims::Fault;
+pub use claims::Fixture;
+pub use claims::Layer;
+pub use claims::LayerDisplay;
+pub use claims::Mover;
+pub use claims::Reach;
+pub use claims::Seen;
+pub use claims::Span;
+pub use claims::ThingFault;
+pub use claims::ThingFaultDisplay;
+pub use claims::ThingFaultSays;
+pub use horizon::Horizon;
+pub use horizon::HorizonSurroundings;
+pub use kinds::FixtureKind;
+pub use kinds::Kind;
+pub use kinds::MoverKind;
+pub use pairs::Pair;
+pub use pairs::PairSurroundings;
+pub use rosters::Roster;
+pub use rosters::RosterSurroundings;

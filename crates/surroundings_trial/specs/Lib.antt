@@ -1,0 +1,2 @@
+pub mod Chargers
+pub mod Barriers
