@@ -1,12 +1,16 @@
 -- What the crates above know of blocking. Assumes nothing.
 use mathlib.Core.Path.{_≡_, sym, _∙_}
 use mathlib.Core.Bool.{Bool, true, _&&_}
-use Prim.Native.Nat.{_*_}
+use Prim.Native.Nat.{ℕ, _*_, _≤_}
+use native.Mathlib.Nat.{le-refl}
 use native.Mathlib.Omega.{arith}
+use lib.IntN.{ℤ}
 use Rattle.std.specs.Orderings.{Decides}
+use Rattle.std.proofs.shelf.Bits.{mul-le}
+use Rattle.std.proofs.shelf.Signed.{ints}
 use Rattle.claims.specs.declared.boxes.Claim.{Claim}
 use Rattle.claims.specs.declared.boxes.Reach.{Reach}
-use Rattle.claims.specs.Blocking.{grown, Blocks, blocks, blocks-edges, covers-box, box-covers}
+use Rattle.claims.specs.Blocking.{grown, Covers, Blocks, blocks, blocks-edges, covers-box, box-covers}
 use Rattle.claims.proofs.Edges.{shared, meeting}
 
 both : (a b : Bool) → (a && b) ≡ true → (a ≡ true) × (b ≡ true)
@@ -31,3 +35,10 @@ blocks-decides c r = (there, here)
         let at = covers-box c (r .time) (b .x) (b .y) (b .covered) in
         blocks-edges c r ∙
         and-true _ _ (meeting (grown (c .x) (c .speed * r .time)) (r .x) (b .x) (at .0) (b .within-x)) (meeting (grown (c .y) (c .speed * r .time)) (r .y) (b .y) (at .1) (b .within-y))
+
+-- Where a thing may be, it may be later too.
+pub covers-later : (c : Claim) (t u : ℕ) (x y : ℤ) → t ≤ u → Covers c t x y → Covers c u x y
+covers-later c t u x y h covered =
+    let at = covers-box c t x y covered in
+    let more = mul-le (c .speed) t (c .speed) u (le-refl (c .speed)) h in
+    box-covers c u x y ((omega (arith, ints), omega (arith, ints)), (omega (arith, ints), omega (arith, ints)))

@@ -34,7 +34,10 @@ down (negsuc n) h = omega (arith, ints, clamps)
 maxes : (x y : ℤ) (b : ℕ) → y ≡ maxZ x (negℤ (pos (2 ^ 63))) → (y -ℤ pos b) ≤ℤ pos (2 ^ 63 - 1) → maxZ (y -ℤ pos b) (negℤ (pos (2 ^ 63))) ≡ maxZ (x -ℤ pos b) (negℤ (pos (2 ^ 63)))
 maxes x y b e h = omega (arith, ints, clamps)
 
--- two differences that stop are one
+-- a difference that stops, and two that are one
+pub lowered-once : (z x : ℤ) (n : ℕ) → z ≤ℤ pos (2 ^ 63 - 1) → x ≡ saturated 63 (z -ℤ pos n) → x ≡ maxZ (z -ℤ pos n) (negℤ (pos (2 ^ 63)))
+lowered-once z x n most first = first ∙ down (z -ℤ pos n) (omega (arith, ints))
+
 pub lowered-twice : (z y x : ℤ) (a b n : ℕ) → a + b ≡ n → z ≤ℤ pos (2 ^ 63 - 1) → y ≡ saturated 63 (z -ℤ pos a) → x ≡ saturated 63 (y -ℤ pos b) → x ≡ maxZ (z -ℤ pos n) (negℤ (pos (2 ^ 63)))
 lowered-twice z y x a b n sum most first second =
     let y-is : y ≡ maxZ (z -ℤ pos a) (negℤ (pos (2 ^ 63))) = first ∙ down (z -ℤ pos a) (omega (arith, ints)) in

@@ -21,7 +21,7 @@ use Rattle.claims.specs.declared.boxes.Claim.{Claim}
 use Rattle.claims.specs.declared.fixtures.Fixture.{Fixture}
 use Rattle.claims.specs.declared.movers.Mover.{Mover}
 use Rattle.claims.specs.Horizons.{everywhere, before, past, strips}
-use Rattle.claims.specs.Limits.{Bounded, Sound}
+use Rattle.claims.specs.Limits.{Bounded, NoFaster, Sound}
 use Rattle.claims.specs.Things.{near, ordered, zero-fixture, zero-mover, fixture-checks, fixture-refused, fixture-claim, mover-checks, mover-refused, half-box, around, mover-claim}
 
 none : (o : Option Refusal) → isSome o ≡ false → o ≡ None
@@ -57,11 +57,11 @@ fixture-sound f =
     (λ _. fixture-stands zero-fixture refl)
     (λ e. fixture-stands f (none (fixture-refused f) e))
 
-pub fixture-slow : (f : Fixture) → fixture-claim f .speed ≤ 0
+pub fixture-slow : (f : Fixture) → NoFaster 0 (fixture-claim f)
 fixture-slow f = omega arith
 
 -- what lies around a place that is near
-pub around-bounded : (z : ℤ) (n : ℕ) → near z ≡ true → n ≤ 40000000000 → Bounded (around z n)
+pub around-bounded : (z : ℤ) (n : ℕ) → near z ≡ true → n ≤ 2000000000000 → Bounded (around z n)
 around-bounded z n b h =
     let i = near-both z b in
     record { least = omega (arith, ints); ordered = omega (arith, ints); most = omega (arith, ints) }
@@ -78,7 +78,7 @@ mover-stands m e =
     let speed = leb-true (m .speed) 20000000 (p .1 .1 .1 .1 .0) in
     let age = leb-true (m .age) 1000 (p .1 .1 .1 .1 .1 .0) in
     let half : half-box m ≤ 40000000000 = omega (arith, mul-le (m .speed) (m .age) 20000000 1000 speed age) in
-    record { x = around-bounded (m .x) (half-box m) (p .0) half; y = around-bounded (m .y) (half-box m) (p .1 .0) half; speed = speed }
+    record { x = around-bounded (m .x) (half-box m) (p .0) (omega arith); y = around-bounded (m .y) (half-box m) (p .1 .0) (omega arith); speed = speed }
 
 pub mover-sound : (m : Mover) → Sound (mover-claim m)
 unfolding moved
@@ -87,7 +87,7 @@ mover-sound m =
     (λ _. mover-stands zero-mover refl)
     (λ e. mover-stands m (none (mover-refused m) e))
 
-pub mover-slow : (m : Mover) → mover-claim m .speed ≤ 20000000
+pub mover-slow : (m : Mover) → NoFaster 20000000 (mover-claim m)
 mover-slow m = mover-sound m .speed
 
 everywhere-bounded : Bounded everywhere

@@ -1,6 +1,5 @@
 // Claims and reaches, and when the one blocks the other. Lengths are in nm, times in ms, speeds in nm per ms.
 ghost use mathlib.Core.Path.{_≡_};
-ghost use mathlib.Core.Bool.{_&&_};
 ghost use Prim.Native.Nat.{_-_, _*_, _^_, _<_};
 ghost use lib.IntN.{pos, negℤ, _+ℤ_, _-ℤ_};
 ghost use Rattle.std.specs.Numbers.{maxZ, minZ};
@@ -31,22 +30,19 @@ pub struct Reach {
     pub time: u32,
 }
 
-// How far an edge moves outwards.
-fn outwards(speed: u32, time: u32) -> u64
-    ensures value { λ r. ⌜ r ≡ speed * time ⌝ }
-    ensures small { λ r. ⌜ r < 2 ^ 64 - 1 ⌝ }
-{
-    speed as u64 * time as u64
-}
+// The greatest signed number of 64 bits.
+const GREATEST: u64 = 9_223_372_036_854_775_807;
 
-// z less by, or the least number of 64 bits. In two steps, as by may be larger than any signed number.
+// z less by, or the least number of 64 bits. In two steps where by is larger than any signed number.
 fn lowered(z: i64, by: u64) -> i64
     requires { ⌜ by < 2 ^ 64 - 1 ⌝ }
     ensures { λ r. ⌜ r ≡ maxZ (z -ℤ pos by) (negℤ (pos (2 ^ 63))) ⌝ }
 {
-    let half = by / 2;
-    z.saturating_sub(half as i64)
-        .saturating_sub((by - half) as i64)
+    if by <= GREATEST {
+        return z.saturating_sub(by as i64);
+    }
+    z.saturating_sub(i64::MAX)
+        .saturating_sub((by - GREATEST) as i64)
 }
 
 // z and by, or the greatest number of 64 bits.
@@ -54,9 +50,11 @@ fn raised(z: i64, by: u64) -> i64
     requires { ⌜ by < 2 ^ 64 - 1 ⌝ }
     ensures { λ r. ⌜ r ≡ minZ (z +ℤ pos by) (pos (2 ^ 63 - 1)) ⌝ }
 {
-    let half = by / 2;
-    z.saturating_add(half as i64)
-        .saturating_add((by - half) as i64)
+    if by <= GREATEST {
+        return z.saturating_add(by as i64);
+    }
+    z.saturating_add(i64::MAX)
+        .saturating_add((by - GREATEST) as i64)
 }
 
 impl Span {
@@ -79,12 +77,20 @@ fn decided(claim: &Claim, reach: &Reach, meet: bool) -> bool
 }
 
 impl Claim {
+    // How far its edges move outwards in a time.
+    fn outwards(&self, time: u32) -> u64
+        ensures value { λ r. ⌜ r ≡ now (self .entry) .speed * time ⌝ }
+        ensures small { λ r. ⌜ r < 2 ^ 64 - 1 ⌝ }
+    {
+        self.speed as u64 * time as u64
+    }
+
     // Whether the claim's box, moved outwards by speed × time on every side, and the reach have a point in common.
     pub fn blocks(&self, reach: &Reach) -> bool
         ensures value { λ r. ⌜ r ≡ blocks (now (self .entry)) (now (reach .entry)) ⌝ }
         ensures point { λ r. ⌜ Decides r (Blocks (now (self .entry)) (now (reach .entry))) ⌝ }
     {
-        let by = outwards(self.speed, reach.time);
+        let by = self.outwards(reach.time);
         decided(
             self,
             reach,

@@ -63,7 +63,7 @@ impl Mover {
     // The mover that the row counts as: itself, or where it is none, the one whose every field is 0.
     pub fn counted(&self) -> Mover
         ensures value { λ r. ⌜ r ≡ mover-counted (now (self .entry)) ⌝ }
-        ensures stands { λ r. ⌜ mover-refused r ≡ None ⌝ }
+        ensures allowed { λ r. ⌜ mover-refused r ≡ None ⌝ }
     {
         if self.fault().is_none() {
             return *self;

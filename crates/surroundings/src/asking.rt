@@ -40,14 +40,14 @@ pub(crate) fn or_next<S: Surroundings>(
 ) -> Option<Claim>
     ensures { λ r. ⌜ r ≡ or-next found (first-blocking (S·Surroundings .claims (now (next .entry))) (now (reach .entry))) ⌝ }
 {
-    match found {
-        Some(claim) => Some(claim),
-        None => next.first_blocking(reach),
+    if found.is_some() {
+        return found;
     }
+    next.first_blocking(reach)
 }
 
 // The answer of surroundings is the first claim of their list that blocks, in plain words, and no other answer is.
-fn told<S: Surroundings>(around: &S, reach: &Reach, answer: Option<Claim>) -> Option<Claim>
+fn first_of_list<S: Surroundings>(around: &S, reach: &Reach, answer: Option<Claim>) -> Option<Claim>
     requires { ⌜ answer ≡ first-blocking (S·Surroundings .claims (now around)) (now reach) ⌝ }
     ensures value { λ r. ⌜ r ≡ first-blocking (S·Surroundings .claims (now (around .entry))) (now (reach .entry)) ⌝ }
     ensures first { λ r. ⌜ FirstBlocking (S·Surroundings .claims (now (around .entry))) (now (reach .entry)) r ⌝ }
@@ -62,5 +62,5 @@ pub fn ask<S: Surroundings>(around: &S, reach: &Reach) -> Option<Claim>
     ensures first { λ r. ⌜ FirstBlocking (S·Surroundings .claims (now (around .entry))) (now (reach .entry)) r ⌝ }
     ensures only { λ r. ⌜ ((o : Option Claim) → FirstBlocking (S·Surroundings .claims (now (around .entry))) (now (reach .entry)) o → o ≡ r) ⌝ }
 {
-    told(around, reach, around.first_blocking(reach))
+    first_of_list(around, reach, around.first_blocking(reach))
 }

@@ -1,8 +1,8 @@
 // Kinds of thing, by what each thing of the kind claims.
 ghost use mathlib.Core.Path.{_≡_};
-ghost use Prim.Native.Nat.{ℕ, _≤_};
+ghost use Prim.Native.Nat.{ℕ};
 ghost use Rattle.claims.specs.declared.boxes.Claim.{Claim};
-ghost use Rattle.claims.specs.Limits.{Sound};
+ghost use Rattle.claims.specs.Limits.{NoFaster, Sound};
 ghost use Rattle.claims.specs.Things.{fixture-claim, mover-claim};
 ghost use Rattle.claims.proofs.SoundLaws.{fixture-sound, fixture-slow, mover-sound, mover-slow};
 use claims::Claim;
@@ -22,9 +22,9 @@ pub trait Kind {
 
     ghost sound: { (thing : Self) → Sound (claim thing) };
 
-    ghost slow: { (thing : Self) → claim thing .speed ≤ greatest };
+    ghost slow: { (thing : Self) → NoFaster greatest (claim thing) };
 
-    // The constant.
+    // The constant: what generic code asks for, as no clause can name the constant itself.
     fn fastest() -> u32
         ensures { λ r. ⌜ r ≡ greatest ⌝ };
 
@@ -49,7 +49,7 @@ pub impl Kind for Fixture as FixtureKind {
     }
 
     fn claim(&self) -> Claim {
-        self.as_claim()
+        Fixture::as_claim(self)
     }
 }
 
@@ -69,6 +69,6 @@ pub impl Kind for Mover as MoverKind {
     }
 
     fn claim(&self) -> Claim {
-        self.as_claim()
+        Mover::as_claim(self)
     }
 }

@@ -1,6 +1,6 @@
 // What is around a cart: kinds of thing, and surroundings as lists of claims with one question.
 mod asking;
-mod horizon;
+mod horizons;
 mod kinds;
 mod pairs;
 mod rosters;
@@ -20,8 +20,8 @@ pub use claims::Span;
 pub use claims::ThingFault;
 pub use claims::ThingFaultDisplay;
 pub use claims::ThingFaultSays;
-pub use horizon::Horizon;
-pub use horizon::HorizonSurroundings;
+pub use horizons::Horizon;
+pub use horizons::HorizonSurroundings;
 pub use kinds::FixtureKind;
 pub use kinds::Kind;
 pub use kinds::MoverKind;

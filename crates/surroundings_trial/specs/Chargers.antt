@@ -1,8 +1,7 @@
 -- What a charger claims: a box of fixed size that stays. Assumes nothing.
-use Prim.Native.Nat.{_≤_}
 use native.Mathlib.Omega.{arith}
 use Rattle.claims.specs.declared.boxes.Claim.{Claim}
-use Rattle.claims.specs.Limits.{Sound}
+use Rattle.claims.specs.Limits.{NoFaster, Sound}
 use Rattle.claims.specs.Things.{around}
 use Rattle.claims.proofs.SoundLaws.{around-bounded}
 use Rattle.surroundings_trial.specs.declared.chargers.Charger.{Charger}
@@ -17,5 +16,5 @@ charger-sound c = record {
   speed = omega arith;
 }
 
-pub charger-slow : (c : Charger) → charger-claim c .speed ≤ 0
+pub charger-slow : (c : Charger) → NoFaster 0 (charger-claim c)
 charger-slow c = omega arith

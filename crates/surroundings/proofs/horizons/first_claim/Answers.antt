@@ -5,7 +5,7 @@ use Rattle.std.proofs.shelf.Lists.{map-id}
 use Rattle.claims.specs.declared.boxes.Claim.{Claim}
 use Rattle.surroundings.specs.Asking.{first-blocking}
 use Rattle.surroundings.proofs.AskLaws.{row-found, row-passed, rows-ended}
-use Rattle.surroundings.proofs.horizon.first_claim.Needs as need
+use Rattle.surroundings.proofs.horizons.first_claim.Needs as need
 
 -- what stands past the end of the list
 abbrev nowhere : Claim

@@ -2,7 +2,7 @@ use mathlib.Core.Path.{_≡_}
 use mathlib.Core.List.{map}
 use lib.ListN.{drop}
 use Rattle.surroundings.specs.Asking.{first-blocking}
-use Rattle.surroundings.proofs.horizon.first_claim.Given as given
+use Rattle.surroundings.proofs.horizons.first_claim.Given as given
 
 -- the claims are rows that claim themselves
 abbrev pub Inv-loop-claim : given.InvT-loop-claim

@@ -23,8 +23,15 @@ pub impl<S: Surroundings> Surroundings for Horizon<S> as HorizonSurroundings {
     ghost sound = { λ h. append-sound (strips (h .seen .x) (h .seen .y) (h .seen .speed)) (S·Surroundings .claims (h .below)) (strips-sound (h .seen .x) (h .seen .y) (h .seen .speed) (h .seen .«low_x_near») (h .seen .«high_x_near») (h .seen .«low_y_near») (h .seen .«high_y_near») (h .seen .«speed_ranged»)) (S·Surroundings .sound (h .below)) };
 
     fn first_blocking(&self, reach: &Reach) -> Option<Claim> {
-        or_next(first_claim(&self.seen.strips(), reach), &self.below, reach)
+        or_next(first_strip(&self.seen, reach), &self.below, reach)
     }
+}
+
+// The first of the four strips that blocks the reach.
+fn first_strip(seen: &Seen, reach: &Reach) -> Option<Claim>
+    ensures { λ r. ⌜ r ≡ first-blocking (strips (now (seen .entry) .x) (now (seen .entry) .y) (now (seen .entry) .speed)) (now (reach .entry)) ⌝ }
+{
+    first_claim(&seen.strips(), reach)
 }
 
 // The first of some claims that blocks the reach.

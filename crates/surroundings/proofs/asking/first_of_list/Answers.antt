@@ -1,7 +1,7 @@
 use mathlib.Core.Path.{_∙_, sym, subst}
 use Rattle.surroundings.specs.Asking.{FirstBlocking}
 use Rattle.surroundings.proofs.AskLaws.{first-is, first-only}
-use Rattle.surroundings.proofs.asking.told.Needs as need
+use Rattle.surroundings.proofs.asking.first_of_list.Needs as need
 
 pub returns : need.returns
 returns g c =
