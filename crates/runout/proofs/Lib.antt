@@ -6,4 +6,4 @@ mod Ramps
 mod Courses
 mod Closed
 mod Composed
-mod WorkedSums
+pub mod WorkedSums

@@ -32,16 +32,17 @@ formula-right hold (pos step) b v brakes = rise-right hold step b v brakes
 formula-right hold (negsuc less) b v brakes = fall-right hold (suc less) b v brakes (omega arith)
 
 -- the same over the numbers of a plate, as they are given
-abbrev by-formula : PlateFields → ℤ → ℤ → RunOut
+abbrev pub by-formula : PlateFields → ℤ → ℤ → RunOut
 by-formula f m a = formula (natAbs (f .hold)) (a +ℤ f .«drive_error») (natAbs (f .brake) - natAbs (f .«drive_error»)) (natAbs m + natAbs (f .«speed_error»))
 
 -- what is refused of a speed and an acceleration, over the same numbers
-abbrev by-limits : PlateFields → ℤ → ℤ → Option Refusal
+abbrev pub by-limits : PlateFields → ℤ → ℤ → Option Refusal
 by-limits f m a = limits-refused (natAbs (f .brake)) (natAbs (f .pull)) m a
 
 -- a plate that holds these numbers
 module _ (p : Plate) (m a : ℤ) where
-  computes : (f : PlateFields) → held p ≡ f → (run-out-refused p m a ≡ by-limits f m a) × (run-out p m a ≡ by-formula f m a)
+  -- what is refused, and the run-out, by the closed formula
+  pub computes : (f : PlateFields) → held p ≡ f → (run-out-refused p m a ≡ by-limits f m a) × (run-out p m a ≡ by-formula f m a)
   computes f holds =
       subst (λ f. (run-out-refused p m a ≡ by-limits f m a) × (run-out p m a ≡ by-formula f m a)) holds
       (refl, sym (run-out-named p m a _ _ _ _ (by-formula (held p) m a) refl refl refl refl (formula-right (p .hold) _ (braking p) _ (omega (arith, p .«real_braking»))) .0))

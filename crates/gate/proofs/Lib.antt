@@ -1,0 +1,6 @@
+mod Checking
+mod Passing
+mod Motion
+mod Colliding
+mod Runs
+mod WorkedTicks
