@@ -37,14 +37,14 @@ plate drive-error speed-error = record {
 }
 
 -- a fixture to the right of the cart, by its low x; one over the cart; and a mover, by its age
-abbrev wall : ℤ → Fixture
-wall low = record { label = 7; x = record { low = low; high = pos 1100000000 }; y = record { low = negℤ (pos 500000000); high = pos 500000000 } }
+abbrev fixture-from : ℤ → Fixture
+fixture-from low = record { label = 7; x = record { low = low; high = pos 1100000000 }; y = record { low = negℤ (pos 500000000); high = pos 500000000 } }
 
 abbrev over : Fixture
 over = record { label = 7; x = record { low = negℤ (pos 1); high = pos 1 }; y = record { low = negℤ (pos 1); high = pos 1 } }
 
-abbrev walker : ℕ → Mover
-walker age = record { label = 9; x = pos 2000000000; y = pos 0; «half_side» = 300000000; error = 50000000; speed = 500000; age = age }
+abbrev mover-aged : ℕ → Mover
+mover-aged age = record { label = 9; x = pos 2000000000; y = pos 0; «half_side» = 300000000; error = 50000000; speed = 500000; age = age }
 
 abbrev row : PlateFields → (speed acceleration : ℤ) → Curve → Around → (travel time peak number : ℕ) → WorkedTick
 row f m a curve around d t p n = record {
@@ -64,10 +64,10 @@ worked-ticks =
     row (plate 200 10000) (pos 30000) (negℤ (pos 1200)) Straight Nothing 820000 40 40000 0 ∷
     row (plate 200 10000) (pos 30500) (negℤ (pos 1200)) Straight Nothing 840500 41 40500 0 ∷
     row (plate 200 10000) (pos 30000) (negℤ (pos 1000)) Straight Nothing 1020000 50 40000 0 ∷
-    row (plate 200 10000) (pos 990000) (negℤ (pos 200)) Straight (Fixed (wall (pos 1020500001))) 600500000 1100 1000000 0 ∷
-    row (plate 200 10000) (pos 990000) (negℤ (pos 200)) Straight (Fixed (wall (pos 1020500000))) 600500000 1100 1000000 40 ∷
-    row (plate 200 10000) (pos 990000) (negℤ (pos 200)) Straight (Moving (walker 158)) 600500000 1100 1000000 0 ∷
-    row (plate 200 10000) (pos 990000) (negℤ (pos 200)) Straight (Moving (walker 159)) 600500000 1100 1000000 40 ∷
+    row (plate 200 10000) (pos 990000) (negℤ (pos 200)) Straight (Fixed (fixture-from (pos 1020500001))) 600500000 1100 1000000 0 ∷
+    row (plate 200 10000) (pos 990000) (negℤ (pos 200)) Straight (Fixed (fixture-from (pos 1020500000))) 600500000 1100 1000000 40 ∷
+    row (plate 200 10000) (pos 990000) (negℤ (pos 200)) Straight (Moving (mover-aged 158)) 600500000 1100 1000000 0 ∷
+    row (plate 200 10000) (pos 990000) (negℤ (pos 200)) Straight (Moving (mover-aged 159)) 600500000 1100 1000000 40 ∷
     row (plate 200 10000) (pos 1990000) (negℤ (pos 200)) Straight Nothing 2201000000 2100 2000000 0 ∷
     row (plate 200 10000) (pos 1990000) (negℤ (pos 199)) Straight Nothing 2201205150 2101 2000100 38 ∷
     row (plate 200 10000) (pos 990000) (negℤ (pos 200)) (Arc (negℤ (pos 2000))) Nothing 600500000 1100 1000000 0 ∷

@@ -100,7 +100,7 @@ driven c order count = record { x = c .x; y = c .y; v = c .v; order = order; cou
 abbrev pub parked : Gate → ℤ → ℤ → World
 parked g x y = record { gate = g; cart = record { x = x; y = y; v = 0; order = negℤ (pos (g .plate .brake)); count = 0 }; clock = 0; last = None }
 
--- One thing that happens, from a world to the next: an accepted tick sets its acceleration for the hold, and was measured within the errors; a refused tick sets the brake; a release sets nothing; in a millisecond the cart has its freedom. A tick is accepted exactly when the gate refuses nothing.
+-- One thing that happens, from a world to the next: an accepted tick sets its acceleration for the hold, and was measured within the errors; a refused tick sets the brake; a release sets nothing; in a millisecond the cart changes as `Millisecond` allows. A tick is accepted exactly when the gate refuses nothing.
 pub data Happens (w : World) : Happening → World → Type 0 where
   accepted : (t : Tick) → tick-refused (w .gate) t ≡ None → Measures (w .gate .plate) (t .measured) (w .cart) → Happens w (tick t) (record { gate = after-tick (w .gate) t; cart = driven (w .cart) (t .proposal .acceleration) (w .gate .plate .hold); clock = w .clock; last = Some (record { at = w .clock; tick = t }) })
   refused : (t : Tick) (r : Refusal) → tick-refused (w .gate) t ≡ Some r → Happens w (tick t) (record { gate = after-tick (w .gate) t; cart = driven (w .cart) (negℤ (pos (w .gate .plate .brake))) 0; clock = w .clock; last = w .last })

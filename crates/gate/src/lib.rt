@@ -1,4 +1,4 @@
-// The stop gate: it passes a planner's proposal on to the drive exactly when the cart can still stop.
+// The stop gate: it passes a planner's proposal on to the drive exactly when its checks pass, and else brakes.
 mod checks;
 mod faults;
 mod gates;

@@ -73,7 +73,7 @@ macro_rules! row {
 }
 
 // A fixture to the right of the cart, by its low x.
-macro_rules! wall {
+macro_rules! fixture_from {
     ($low:expr) => {
         Around::Fixed(Fixture {
             label: 7,
@@ -91,7 +91,7 @@ const OVER: Around = Around::Fixed(Fixture {
 });
 
 // A mover by its age.
-macro_rules! walker {
+macro_rules! mover_aged {
     ($age:expr) => {
         Around::Moving(Mover {
             label: 9,
@@ -125,10 +125,10 @@ pub fn worked_ticks() -> [WorkedTick; 15]
         row!(SAMPLE, 30_000, -1_200, Curve::Straight, Around::Nothing => 820_000, 40, 40_000, 0),
         row!(SAMPLE, 30_500, -1_200, Curve::Straight, Around::Nothing => 840_500, 41, 40_500, 0),
         row!(SAMPLE, 30_000, -1_000, Curve::Straight, Around::Nothing => 1_020_000, 50, 40_000, 0),
-        row!(SAMPLE, 990_000, -200, Curve::Straight, wall!(1_020_500_001) => 600_500_000, 1_100, 1_000_000, 0),
-        row!(SAMPLE, 990_000, -200, Curve::Straight, wall!(1_020_500_000) => 600_500_000, 1_100, 1_000_000, 40),
-        row!(SAMPLE, 990_000, -200, Curve::Straight, walker!(158) => 600_500_000, 1_100, 1_000_000, 0),
-        row!(SAMPLE, 990_000, -200, Curve::Straight, walker!(159) => 600_500_000, 1_100, 1_000_000, 40),
+        row!(SAMPLE, 990_000, -200, Curve::Straight, fixture_from!(1_020_500_001) => 600_500_000, 1_100, 1_000_000, 0),
+        row!(SAMPLE, 990_000, -200, Curve::Straight, fixture_from!(1_020_500_000) => 600_500_000, 1_100, 1_000_000, 40),
+        row!(SAMPLE, 990_000, -200, Curve::Straight, mover_aged!(158) => 600_500_000, 1_100, 1_000_000, 0),
+        row!(SAMPLE, 990_000, -200, Curve::Straight, mover_aged!(159) => 600_500_000, 1_100, 1_000_000, 40),
         row!(SAMPLE, 1_990_000, -200, Curve::Straight, Around::Nothing => 2_201_000_000, 2_100, 2_000_000, 0),
         row!(SAMPLE, 1_990_000, -199, Curve::Straight, Around::Nothing => 2_201_205_150, 2_101, 2_000_100, 38),
         row!(SAMPLE, 990_000, -200, Curve::Arc(-2_000), Around::Nothing => 600_500_000, 1_100, 1_000_000, 0),
