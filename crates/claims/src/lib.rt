@@ -1,4 +1,6 @@
 // What a thing claims: a box in which it is and a speed at which it leaves it; and the two kinds of thing.
+#![tactic(auto)]
+
 mod boxes;
 mod faults;
 mod fixtures;

@@ -1,4 +1,6 @@
 // Reads the lines that `roll_call` writes of a floor from standard input, and writes the floor file to standard output.
+#![tactic(auto)]
+
 use anyhow::anyhow;
 use claims::{Fixture, Span};
 use floor_writer::write_floor;

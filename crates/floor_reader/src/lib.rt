@@ -1,4 +1,6 @@
 // Reads a floor file: its plate, and its fixtures into a table.
+#![tactic(auto)]
+
 mod blocks;
 mod bytes;
 mod reading;

@@ -1,4 +1,6 @@
 // Writes a floor file of a plate and fixtures.
+#![tactic(auto)]
+
 mod blocks;
 mod faults;
 mod writing;

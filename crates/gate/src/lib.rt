@@ -1,4 +1,6 @@
 // The stop gate: it passes a planner's proposal on to the drive exactly when its checks pass, and else brakes.
+#![tactic(auto)]
+
 mod checks;
 mod faults;
 mod gates;

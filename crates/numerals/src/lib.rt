@@ -1,4 +1,6 @@
 // Whole numbers as text, in decimal.
+#![tactic(auto)]
+
 ghost use Rattle.std.specs.Prelude.{Some, decimal};
 ghost use Rattle.std.specs.Fmt.{signed_decimal};
 

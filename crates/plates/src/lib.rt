@@ -1,4 +1,6 @@
 // The plate of a cart: nine numbers, each in its range, that say what the cart can do.
+#![tactic(auto)]
+
 mod faults;
 mod fields;
 mod plates;

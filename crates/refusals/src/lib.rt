@@ -1,4 +1,6 @@
 // What every fault of the product says: the layer that refused, the refusal's number, and the values that go with it.
+#![tactic(auto)]
+
 mod layers;
 mod texts;
 

@@ -1,4 +1,6 @@
 // Reads a floor file from standard input and writes what a cart will believe of it: the plate, each fixture, and how many there are; or why it is not read.
+#![tactic(auto)]
+
 mod lines;
 
 use anyhow::anyhow;

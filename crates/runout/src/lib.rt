@@ -1,4 +1,6 @@
 // The run-out of a cart: the worst journey that a proposal allows. What it needs of the layers below is named here too.
+#![tactic(auto)]
+
 mod faults;
 mod formulas;
 mod run_outs;

@@ -1,4 +1,5 @@
 // Tests of the plate and the run-out, as a client writes them.
+#![tactic(auto)]
 
 #[cfg(test)]
 mod tests {

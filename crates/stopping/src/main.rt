@@ -1,4 +1,6 @@
 // Reads the nine numbers of a plate and then lines with a speed and an acceleration, and writes what comes of each.
+#![tactic(auto)]
+
 mod answers;
 
 use answers::{Refused, ask};

@@ -1,4 +1,6 @@
 // What is around a cart: kinds of thing, and surroundings as lists of claims with one question.
+#![tactic(auto)]
+
 mod asking;
 mod horizons;
 mod kinds;

@@ -1,4 +1,6 @@
 // A client of the surroundings: a kind of its own, surroundings of its own, and a horizon over a pair of rosters.
+#![tactic(auto)]
+
 mod barriers;
 mod chargers;
 mod whole;
