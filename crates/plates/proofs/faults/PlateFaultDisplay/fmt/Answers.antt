@@ -6,7 +6,7 @@ returns-in-OutOfRange-clause-writes g c =
     simp c.in-OutOfRange.is shown
 
 pub returns-in-WeakBraking-clause-writes : goal.returns-in-WeakBraking-clause-writes
-returns-in-WeakBraking-clause-writes g c = simp c.in-WeakBraking.is c.write-str.ensures.writes
+returns-in-WeakBraking-clause-writes g c = simp c.in-WeakBraking.is c.write_str.ensures.writes
 
 pub returns-in-SpeedErrorTooLarge-clause-writes : goal.returns-in-SpeedErrorTooLarge-clause-writes
-returns-in-SpeedErrorTooLarge-clause-writes g c = simp c.in-SpeedErrorTooLarge.is c.write-str-in-SpeedErrorTooLarge.ensures.writes
+returns-in-SpeedErrorTooLarge-clause-writes g c = simp c.in-SpeedErrorTooLarge.is c.write_str-in-SpeedErrorTooLarge.ensures.writes

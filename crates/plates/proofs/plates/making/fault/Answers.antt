@@ -19,5 +19,5 @@ returns-in-None c =
     let f = c.args.fields.now in
     record {
       told = search rules;
-      sound = sound f c.relation-fault.result (all_inside f plate_fields (search rules)) c.relation-fault.ensures;
+      sound = sound f c.relation_fault.result (all_inside f plate_fields (search rules)) c.relation_fault.ensures;
     }
