@@ -7,6 +7,6 @@ use Rattle.floor_reader.proofs.reading.fill_table.Goals as goal
 pub loop-k-preserved : goal.loop-k-preserved
 loop-k-preserved c =
     let k = c.loop-k.k in
-    let row = c.fixture-row.ensures ∙ ap (fixture_at c.args.bytes.now) c.row_offset.ensures in
-    ap (λ t. set t k c.fixture-row.result) c.loop-k.invariant ∙ ap (set _ k) row
+    let row = c.fixture_row.ensures ∙ ap (fixture_at c.args.bytes.now) c.row_offset.ensures in
+    ap (λ t. set t k c.fixture_row.result) c.loop-k.invariant ∙ ap (set _ k) row
     ∙ fill_row (row_in c.args.bytes.now) c.args.table.now k (omega arith)

@@ -5,30 +5,30 @@ use Rattle.floors.proofs.Firsts.{first_among_more}
 use Rattle.floors.proofs.Frames.{frame_few, block_row_fault, block_no_fault}
 use Rattle.floor_reader.proofs.records.fixture_block.Goals as goal
 
-pub returns-in-err-check-frame : goal.returns-in-err-check-frame
+pub returns-in_err-check_frame : goal.returns-in_err-check_frame
 unfolding block_refused
-returns-in-err-check-frame c = search rules
+returns-in_err-check_frame c = search rules
 
-pub fixture-at-requires : goal.fixture-at-requires
-fixture-at-requires c =
-    let few : get_or c.args.block.now 1 0 ≤ 13 = frame_few c.args.blocks c.args.number c.args.block.now c.requires.0 c.in-ok-check-frame.ensures.0 in
+pub fixture_at-requires : goal.fixture_at-requires
+fixture_at-requires c =
+    let few : get_or c.args.block.now 1 0 ≤ 13 = frame_few c.args.blocks c.args.number c.args.block.now c.requires.0 c.in_ok-check_frame.ensures.0 in
     omega arith
 
-pub returns-in-err-fixture-at : goal.returns-in-err-fixture-at
+pub returns-in_err-fixture_at : goal.returns-in_err-fixture_at
 unfolding row_refused
-returns-in-err-fixture-at c =
-    let p = err_from_is_err_and c.from-residual-in-err-fixture-at.result c.from-residual-in-err-fixture-at.ensures.1 in
+returns-in_err-fixture_at c =
+    let p = err_from_is_err_and c.from_residual-in_err-fixture_at.result c.from_residual-in_err-fixture_at.ensures.1 in
     rw (p.1, p.2)
-    (block_row_fault c.args.blocks c.args.number c.args.block.now (omega arith) c.in-ok-check-frame.ensures.0
-    c.loop-j.j _ c.loop-j.invariant c.in-err-fixture-at.ensures (omega arith))
+    (block_row_fault c.args.blocks c.args.number c.args.block.now (omega arith) c.in_ok-check_frame.ensures.0
+    c.loop-j.j _ c.loop-j.invariant c.in_err-fixture_at.ensures (omega arith))
 
 pub loop-j-preserved : goal.loop-j-preserved
 unfolding row_refused
-loop-j-preserved c = first_among_more _ c.loop-j.j c.loop-j.invariant c.in-ok-fixture-at.ensures.0
+loop-j-preserved c = first_among_more _ c.loop-j.j c.loop-j.invariant c.in_ok-fixture_at.ensures.0
 
 pub returns : goal.returns
 returns c =
-    let fine = c.in-ok-check-frame.ensures.0 in
+    let fine = c.in_ok-check_frame.ensures.0 in
     let few : get_or c.args.block.now 1 0 ≤ 13 = frame_few c.args.blocks c.args.number c.args.block.now c.requires.0 fine in (
       block_no_fault c.args.blocks c.args.number c.args.block.now (omega arith) fine c.loop-j.j c.loop-j.invariant (omega arith),
       (c.from-count.ensures, omega arith),

@@ -21,7 +21,7 @@ loop-k-preserved c =
     let same = ap (λ l. get_or l k (pos 0)) c.numbers-numbers.ensures in
     let z = get_or c.numbers-numbers.result k (pos 0) in
     let fits : SFits w64 z = search rules in
-    c.put-i64.ensures ∙ ap (λ n. written b (8 + 8 * k) (i64_bytes n)) (to_z-of_z w64 z fits ∙ same)
+    c.put_i64.ensures ∙ ap (λ n. written b (8 + 8 * k) (i64_bytes n)) (to_z-of_z w64 z fits ∙ same)
     ∙ records_more i64_bytes 8 length_i64 c.args.block.now 8 ns k (pos 0) b (omega arith) (omega arith) c.loop-k.invariant
 
 pub loop-k-init : goal.loop-k-init

@@ -5,6 +5,6 @@ use Rattle.floor_writer.proofs.blocks.seal.Goals as goal
 
 pub returns : goal.returns
 returns c =
-    let e : c.to-le-bytes.result ≡ le_bytes 2 (checksum (take 510 c.args.block.now)) =
-    c.to-le-bytes.ensures ∙ ap (le_bytes 2) (omega (arith, c.wrapping-neg.ensures, c.sum-of-words-sum.ensures)) in
-    seal_on c.args.block.now c.to-le-bytes.result c.put.new.bytes c.requires e c.put.ensures
+    let e : c.to_le_bytes.result ≡ le_bytes 2 (checksum (take 510 c.args.block.now)) =
+    c.to_le_bytes.ensures ∙ ap (le_bytes 2) (omega (arith, c.wrapping_neg.ensures, c.sum_of_words-sum.ensures)) in
+    seal_on c.args.block.now c.to_le_bytes.result c.put.new.bytes c.requires e c.put.ensures

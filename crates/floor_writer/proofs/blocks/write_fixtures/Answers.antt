@@ -17,6 +17,6 @@ returns c =
     let rs = flat_map fixture_record rows in
     let many = length-map fs fixture_counted in
     let len = length_joined fixture_record 36 length_fixture rows in
-    block_on i (length fs) rs c.args.block.now c.clear.new.block c.put.new.bytes c.put-fixtures.new.block c.seal.new.block
-    c.requires.whole (omega arith) c.clear.ensures (c.put.ensures ∙ ap (written c.clear.new.block 0) c.head-bytes.ensures) c.put-fixtures.ensures c.seal.ensures
+    block_on i (length fs) rs c.args.block.now c.clear.new.block c.put.new.bytes c.put_fixtures.new.block c.seal.new.block
+    c.requires.whole (omega arith) c.clear.ensures (c.put.ensures ∙ ap (written c.clear.new.block 0) c.head_bytes.ensures) c.put_fixtures.ensures c.seal.ensures
     ∙ ap (λ n. sealed (body i n rs)) (sym many)

@@ -10,7 +10,7 @@ returns-else-number-eq0 c =
     let i = c.args.number in
     let fs = c.args.rows.now in
     let from = 13 * (i - 1) in
-    c.write-fixtures.ensures
+    c.write_fixtures.ensures
     ∙ ap (λ l. fixture_block i (map fixture_counted l)) (part_is fs from c.min-to.result c.requires.there c.min-to.ensures)
     ∙ ap (fixture_block i) (sym (ap (take 13) (drop-map fixture_counted from fs) ∙ take-map fixture_counted 13 (drop from fs)))
     ∙ sym (later_block c.args.fields.now (map fixture_counted fs) i (omega arith))

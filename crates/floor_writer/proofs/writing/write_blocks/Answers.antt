@@ -10,7 +10,7 @@ pub loop-number-preserved : goal.loop-number-preserved
 loop-number-preserved c =
     let fields = c.args.fields.now in
     let rows = map fixture_counted c.args.rows.now in
-    c.write-at.ensures
+    c.write_at.ensures
     ∙ blocks_more (floor_block fields rows) (length_block fields rows) c.args.out.now c.loop-number.number c.loop-number.out (omega arith) c.loop-number.invariant
 
 pub returns : goal.returns

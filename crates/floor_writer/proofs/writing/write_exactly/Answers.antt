@@ -7,11 +7,11 @@ returns c =
     let plate = c.args.plate.now in
     let rows = c.args.rows.now in
     let out = c.args.out.now in
-    let r = c.write-rows.result in
-    let wrote = c.write-rows.ensures in
+    let r = c.write_rows.result in
+    let wrote = c.write_rows.ensures in
     record {
       answer = written_length plate rows (length out) r wrote.answer;
       bytes = wrote.bytes;
       room = written_room (length rows) (length out) r wrote.answer;
-      exact = written_exactly plate rows out r c.write-rows.new.out c.all-labelled.ensures wrote.answer wrote.bytes;
+      exact = written_exactly plate rows out r c.write_rows.new.out c.all_labelled.ensures wrote.answer wrote.bytes;
     }

@@ -12,16 +12,16 @@ returns-in-Some g c = measured_refused _ _ c.in-Some.field (sym c.in-Some.ensure
 pub returns-in-Ok : goal.returns-in-Ok
 returns-in-Ok g c =
     let t = asked c.args.measured c.args.proposal (g.S.Surroundings.claims c.args.around.now) in
-    let none : bad_field c.args.measured ≡ None = sym c.bad_field.ensures ∙ c.in-default.is in
+    let none : bad_field c.args.measured ≡ None = sym c.bad_field.ensures ∙ c.in_default.is in
     let fs : SFits w64 c.args.measured.speed = search rules in
     let fa : SFits w64 c.args.proposal.acceleration = search rules in
     let answer = simp to_z-of_z at c.in-Ok.ensures.answer in
-    answers_as c.args.plate.now t c.in-Ok.out answer.1 (run_out_next c.args.plate.now t none answer.0) c.checked-run-out.result c.checked-run-out.ensures
+    answers_as c.args.plate.now t c.in-Ok.out answer.1 (run_out_next c.args.plate.now t none answer.0) c.checked_run_out.result c.checked_run_out.ensures
 
 pub returns-in-Err : goal.returns-in-Err
 returns-in-Err g c =
     let t = asked c.args.measured c.args.proposal (g.S.Surroundings.claims c.args.around.now) in
-    let none : bad_field c.args.measured ≡ None = sym c.bad_field.ensures ∙ c.in-default.is in
+    let none : bad_field c.args.measured ≡ None = sym c.bad_field.ensures ∙ c.in_default.is in
     let fs : SFits w64 c.args.measured.speed = search rules in
     let fa : SFits w64 c.args.proposal.acceleration = search rules in
     let turned = run_out_turned c.args.plate.now t c.in-Err.fault none (simp to_z-of_z at c.in-Err.ensures.answer) in

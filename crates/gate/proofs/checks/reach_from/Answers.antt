@@ -6,7 +6,7 @@ pub returns : goal.returns
 returns c =
     let p = c.args.plate.now in
     let q = c.args.measured in
-    let s : ℕ = c.half_side.result + c.place-error.result + c.args.out.travel in
+    let s : ℕ = c.half_side.result + c.place_error.result + c.args.out.travel in
     let side : s ≡ p.half_side + p.place_error + c.args.out.travel = omega arith in
     let small : s ≤ 2 ^ 61 = omega (arith, p.half_side_ranged, p.place_error_ranged, c.requires.1) in
     let x = x_in q c.requires.0 in
