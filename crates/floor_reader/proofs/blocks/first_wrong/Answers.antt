@@ -12,4 +12,4 @@ returns-in-Ok c =
     let h = c.in-Ok.ensures in
     wrong_rest c.args.blocks c.args.number c.args.block.now c.requires.0 h.0
     c.used_bytes.result (c.used_bytes.ensures ∙ ap (used_bytes c.args.number) h.2)
-    c.in-Ok.rest.now h.3 c.wrong-in_default.result c.wrong-in_default.ensures
+    c.in-Ok.rest.now h.3 c.wrong_in_rest.result c.wrong_in_rest.ensures
