@@ -47,7 +47,7 @@ fn count_of(line: &str) -> Option<i64> {
 // Says on standard error what is wrong with a line; then nothing is written.
 fn wrong<D: fmt::Display + Drop>(rt: &HostRuntime, line: usize, words: D) -> anyhow::Error {
     match eprintln!(rt; "line {line}: {words}") {
-        Ok(()) => "no floor is written".into(),
+        Ok(()) => anyhow!("no floor is written"),
         Err(e) => e.into(),
     }
 }
