@@ -152,7 +152,7 @@ def main():
 
 
 # Own names that begin like one that the toolchain makes.
-KEPT_AS_OWN = {"in-range", "in-order", "in-record", "in-speed"}
+KEPT_AS_OWN = {"in-range", "in-order", "in-record", "in-speed", "in-brake", "after-tick", "after-release", "after-head", "before-bounded"}
 
 TURNED = (
     "all-hold all-right block-in block-on block-refused block-words blocks-more bytes-after clear-of first-next first-of frame-back frame-is frame-refused "

@@ -1,5 +1,5 @@
 -- What things claim is within the limits of a claim. Assumes nothing.
-use Rattle.std.proofs.Common.{◌≡◌, ℕ, ◌+◌, ◌≤◌, true, false, ◌&&◌, List, [], ◌∷◌, ◌++◌, map, ℤ, pos, neg_ℤ, ◌≤ℤ◌, is_some, Some, None, Option, refl, arith}
+use Rattle.std.proofs.Common.{◌≡◌, ℕ, ◌≤◌, true, false, ◌&&◌, List, [], ◌∷◌, ◌++◌, map, ℤ, pos, neg_ℤ, ◌≤ℤ◌, is_some, Some, None, Option, refl, arith}
 use Rattle.std.specs.List.{AllByRecursion}
 use Rattle.std.proofs.lemmas.Nat.{mul-le}
 use Rattle.std.proofs.ByRecursion.{All-append}
@@ -84,8 +84,8 @@ mover_slow m = (mover_sound m).speed
 everywhere_bounded : Bounded everywhere
 everywhere_bounded = record { least = omega (arith, ints); ordered = omega (arith, ints); most = omega (arith, ints) }
 
-before-bounded : (s : Span) → near s.low ≡ true → Bounded (before s)
-before-bounded s b =
+before_bounded : (s : Span) → near s.low ≡ true → Bounded (before s)
+before_bounded s b =
     let i = near_both s.low b in
     record { least = omega (arith, ints); ordered = omega (arith, ints); most = omega (arith, ints) }
 
@@ -96,11 +96,11 @@ past_bounded s b =
 
 pub strips_sound : (x y : Span) (speed : ℕ) → near x.low ≡ true → near x.high ≡ true → near y.low ≡ true → near y.high ≡ true → speed ≤ 20000000 → AllByRecursion Sound (strips x y speed)
 strips_sound x y speed xl xh yl yh slow = (
-  record { x = before-bounded x xl; y = everywhere_bounded; speed = slow },
+  record { x = before_bounded x xl; y = everywhere_bounded; speed = slow },
   (
     record { x = past_bounded x xh; y = everywhere_bounded; speed = slow },
     (
-      record { x = everywhere_bounded; y = before-bounded y yl; speed = slow },
+      record { x = everywhere_bounded; y = before_bounded y yl; speed = slow },
       (record { x = everywhere_bounded; y = past_bounded y yh; speed = slow }, tt),
     ),
   ),

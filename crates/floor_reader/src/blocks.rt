@@ -125,6 +125,7 @@ fn check_bytes(block: &[u8], blocks: usize, number: usize) -> Result<(), BlockFa
 }
 
 // Why a block is refused but for its records.
+#[tactic(auto, unfolding(floors::specs::Blocks::frame_refused))]
 pub(crate) fn check_frame(block: &[u8], blocks: usize, number: usize) -> Result<(), BlockFault>
     requires { (length block.now ≡ 512) × (number < 80) }
     ensures { Answers block_fault (frame_refused blocks number block.now) (λ _. Unit {0}) result }

@@ -1,6 +1,5 @@
 -- What writing answers and leaves, and that what is written is read again. Assumes nothing.
 use Rattle.std.specs.Prelude.{ℕ, ◌*◌, ◌^◌, ◌<◌, Bool, List, [], ◌∷◌, ◌++◌, map, length, take, drop, IfOk, Ok, Err, codes, Option, Result, nat_le}
-use Rattle.std.specs.List.{AllByRecursion}
 use Rattle.refusals.specs.declared.layers.Layer.TheVariants.{Thing, Block}
 use Rattle.refusals.specs.Refusals.{Refusal}
 use Rattle.refusals.specs.Answers.{first_of}

@@ -36,8 +36,8 @@ module _ (i count : ℕ) (rs : List ℕ) (small : length rs ≤ 502) where
   take_body : take 510 (sealed (body i count rs)) ≡ body i count rs
   take_body = take_at (body i count rs) (le_bytes 2 (checksum (body i count rs))) 510 (length_body i count rs small)
 
-  pub after-head : drop 8 (sealed (body i count rs)) ≡ rs ++ (replicate (502 - length rs) 0 ++ le_bytes 2 (checksum (body i count rs)))
-  after-head = append_assoc rs (replicate (502 - length rs) 0) (le_bytes 2 (checksum (body i count rs)))
+  pub after_head : drop 8 (sealed (body i count rs)) ≡ rs ++ (replicate (502 - length rs) 0 ++ le_bytes 2 (checksum (body i count rs)))
+  after_head = append_assoc rs (replicate (502 - length rs) 0) (le_bytes 2 (checksum (body i count rs)))
 
   -- the records of a sealed block
   records_in : (n : ℕ) → n ≡ length rs → take n (drop 8 (sealed (body i count rs))) ≡ rs
@@ -119,7 +119,7 @@ module _ (plate : PlateFields) (fs : List Fixture) (w : Writable plate fs) where
       let small : length (plate_record plate) ≤ 502 = omega (arith, length_plate plate) in
       sym (fill_by_all (λ k. i64_at b (8 + 8 * k)) ns 9 (pos 0) refl
       (λ k h.
-      let e = sym (drop-drop (8 * k) 8 b) ∙ ap (drop (8 * k)) (after-head 0 0 (plate_record plate) small) in
+      let e = sym (drop-drop (8 * k) 8 b) ∙ ap (drop (8 * k)) (after_head 0 0 (plate_record plate) small) in
       let t = ap (take 8) e ∙ joined_at i64_bytes 8 length_i64 ns _ k (pos 0) h in
       sym (ap (λ l. to_z w64 (le_value l)) t ∙ i64_back (get_or ns k (pos 0)) (numbers_fit plate w.plate_made k h))))
 
@@ -136,7 +136,7 @@ module _ (plate : PlateFields) (fs : List Fixture) (w : Writable plate fs) where
       let part = rows_at fs m in
       let rs = flat_map fixture_record part in
       let lp = length_part fs m in
-      let e = sym (drop-drop (36 * j) 8 b) ∙ ap (drop (36 * j)) (after-head (suc m) (length part) rs (rows_small fs m)) in
+      let e = sym (drop-drop (36 * j) 8 b) ∙ ap (drop (36 * j)) (after_head (suc m) (length part) rs (rows_small fs m)) in
       let t = ap (take 36) e ∙ joined_at fixture_record 36 length_fixture part _ j zero_fixture h in
       let g = get_or-take 13 (drop (13 * m) fs) j zero_fixture (omega arith) ∙ get_or-drop (13 * m) fs j zero_fixture in
       fixture_back b (8 + 36 * j) (get_or fs (13 * m + j) zero_fixture) (made_fits _ (row_made (13 * m + j) (omega arith))) (t ∙ ap fixture_record g)

@@ -1,5 +1,5 @@
 -- The checks of an open gate, step by step. Assumes nothing.
-use Rattle.std.proofs.Common.{◌≡◌, ℕ, ◌^◌, ◌≤◌, Bool, true, false, cond, ◌&&◌, ℤ, pos, ◌+ℤ◌, ◌-ℤ◌, neg_ℤ, ◌≤ℤ◌, Some, None, Ok, Err, Result, sym, refl, ap, ◌∙◌, arith, w64, to_z, of_z}
+use Rattle.std.proofs.Common.{◌≡◌, ℕ, ◌+◌, ◌^◌, ◌<◌, ◌≤◌, Bool, true, false, cond, ◌&&◌, ℤ, pos, ◌+ℤ◌, ◌-ℤ◌, neg_ℤ, ◌≤ℤ◌, Some, None, Ok, Err, Result, sym, refl, ap, ◌∙◌, arith, w64, to_z, of_z}
 use lib.Signed.{le_z}
 use Rattle.std.proofs.lemmas.Int.{ints}
 use Rattle.refusals.specs.Refusals.{Refusal}
@@ -10,13 +10,14 @@ use Rattle.runout.specs.declared.faults.RunOutFault.TheVariants.{Speed, Accelera
 use Rattle.runout.specs.declared.run_outs.RunOut.{RunOut}
 use Rattle.runout.specs.Faults.{run_out_fault}
 use Rattle.runout.specs.RunOuts.{run_out_refused, run_out}
+use Rattle.claims.specs.declared.boxes.Reach.{Reach}
 use Rattle.gate.specs.declared.faults.TickFault.{TickFault}
 use Rattle.gate.specs.declared.faults.TickFault.TheVariants.{Measured, Acceleration}
 use Rattle.gate.specs.declared.parts.Measurement.{Measurement}
 use Rattle.gate.specs.declared.parts.MeasurementField.{MeasurementField}
 use Rattle.gate.specs.declared.parts.Ticket.{Ticket}
 use Rattle.gate.specs.Faults.{tick_fault}
-use Rattle.gate.specs.Checks.{Tick, bad_field, of_run_out, run_out_checked, open_refused, ticket_from, ticket_of}
+use Rattle.gate.specs.Checks.{Tick, bad_field, reach_from, of_run_out, run_out_checked, open_refused, ticket_from, ticket_of}
 
 -- a measurement in its ranges
 pub x_in : (q : Measurement) → bad_field q ≡ None → (neg_ℤ (pos 1000000000000) ≤ℤ q.x) × (q.x ≤ℤ pos 1000000000000)
@@ -31,6 +32,23 @@ less z n h k l = omega (arith, ints)
 
 pub plus : (z : ℤ) (n : ℕ) → neg_ℤ (pos 1000000000000) ≤ℤ z → z ≤ℤ pos 1000000000000 → n ≤ 2 ^ 61 → to_z w64 (of_z w64 (to_z w64 (of_z w64 z) +ℤ to_z w64 n)) ≡ z +ℤ pos n
 plus z n h k l = omega (arith, ints)
+
+-- the reach that the machine makes with s on every side
+pub reach_made : (p : Plate) (q : Measurement) (out : RunOut) (s : ℕ) → bad_field q ≡ None → out.travel < 2 ^ 53 → s ≡ p.half_side + p.place_error + out.travel →
+    ◌≡◌ {A = Reach} (record {
+      x = record { low = to_z w64 (of_z w64 (to_z w64 (of_z w64 q.x) -ℤ to_z w64 s)); high = to_z w64 (of_z w64 (to_z w64 (of_z w64 q.x) +ℤ to_z w64 s)) };
+      y = record { low = to_z w64 (of_z w64 (to_z w64 (of_z w64 q.y) -ℤ to_z w64 s)); high = to_z w64 (of_z w64 (to_z w64 (of_z w64 q.y) +ℤ to_z w64 s)) };
+      time = out.time;
+    }) (reach_from p q out)
+reach_made p q out s inside travel side =
+    let small : s ≤ 2 ^ 61 = omega (arith, p.half_side_ranged, p.place_error_ranged) in
+    let x = x_in q inside in
+    let y = y_in q inside in
+    let lx = less q.x s x.0 x.1 small ∙ ap (λ n. q.x -ℤ pos n) side in
+    let hx = plus q.x s x.0 x.1 small ∙ ap (λ n. q.x +ℤ pos n) side in
+    let ly = less q.y s y.0 y.1 small ∙ ap (λ n. q.y -ℤ pos n) side in
+    let hy = plus q.y s y.0 y.1 small ∙ ap (λ n. q.y +ℤ pos n) side in
+    λ i. record { x = record { low = lx i; high = hx i }; y = record { low = ly i; high = hy i }; time = out.time }
 
 pub measured_refused : (p : Plate) (t : Tick) (field : MeasurementField) → bad_field t.measured ≡ Some field → open_refused p t ≡ Some (tick_fault (Measured field))
 unfolding open_refused

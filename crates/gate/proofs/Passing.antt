@@ -61,8 +61,8 @@ claims_none (Some claim) h = nothing h
 in_speed : (q : Measurement) → bad_field q ≡ None → pos 0 ≤ℤ q.speed
 in_speed q h = grind (arith, ints)
 
-in-brake : (a : ℤ) (b p : ℕ) → (le_z (neg_ℤ (pos b)) a && le_z a (pos p)) ≡ true → neg_ℤ (pos b) ≤ℤ a
-in-brake a b p h = grind (arith, ints)
+in_brake : (a : ℤ) (b p : ℕ) → (le_z (neg_ℤ (pos b)) a && le_z a (pos p)) ≡ true → neg_ℤ (pos b) ≤ℤ a
+in_brake a b p h = grind (arith, ints)
 
 turns : (p : Plate) (c : Curve) (v : ℕ) → turn_allowed p c v ≡ true → Turns p c v
 turns p Straight v h = tt
@@ -83,7 +83,7 @@ passed p t h =
     let later = all_hold ((radius_allowed t.proposal.curve, tick_fault Radius) ∷ (leb out.peak p.top_speed, tick_fault TopSpeed) ∷ (turn_allowed p t.proposal.curve out.peak, tick_fault TurnLimit) ∷ []) third.0 in
     record {
       speed = in_speed t.measured (measured_none (bad_field t.measured) first.0);
-      brake = in-brake t.proposal.acceleration p.brake p.pull acceleration.0;
+      brake = in_brake t.proposal.acceleration p.brake p.pull acceleration.0;
       top = leb-true out.peak p.top_speed later.1.0;
       turn = turns p t.proposal.curve out.peak later.1.1.0;
       clear = unblocked out.time (first_blocking t.claims (reach_of p t)) third.1;

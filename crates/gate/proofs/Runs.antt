@@ -1,5 +1,5 @@
 -- What holds in every run. Assumes nothing.
-use Rattle.std.proofs.Common.{◌≡◌, ℕ, suc, ◌+◌, ◌-◌, ◌<◌, ◌≤◌, ◌⊎◌, List, ℤ, pos, ◌+ℤ◌, ◌-ℤ◌, neg_ℤ, ◌≤ℤ◌, Some, None, Option, sym, refl, ap, ◌∙◌, subst, inl, inr, ⊎_elim, le_trans, add-zero, add-suc, arith}
+use Rattle.std.proofs.Common.{◌≡◌, ℕ, suc, ◌+◌, ◌-◌, ◌<◌, ◌≤◌, List, ℤ, pos, ◌+ℤ◌, ◌-ℤ◌, neg_ℤ, ◌≤ℤ◌, Some, None, Option, sym, refl, ap, ◌∙◌, subst, inl, inr, ⊎_elim, le_trans, add-zero, add-suc, arith}
 use Rattle.std.specs.List.{ContainsAt, AllByRecursion}
 use Rattle.std.proofs.ByRecursion.{all-has}
 use Rattle.std.proofs.lemmas.Int.{ints}
@@ -7,7 +7,6 @@ use Rattle.std.proofs.lemmas.Bool.{cases_lt}
 use Rattle.refusals.specs.Refusals.{Refusal}
 use Rattle.plates.specs.declared.plates.Plate.{Plate}
 use Rattle.runout.specs.Speeds.{changed, RunOutOf}
-use Rattle.runout.specs.RunOuts.{speeds}
 use Rattle.runout.proofs.Laws.{travelled_within}
 use Rattle.runout.proofs.RunOutLaws.{run_out_right}
 use Rattle.claims.specs.declared.boxes.Claim.{Claim}

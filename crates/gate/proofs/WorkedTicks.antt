@@ -15,7 +15,7 @@ use Rattle.runout.specs.RunOuts.{run_out}
 use Rattle.runout.proofs.WorkedSums.{by_formula, computes}
 use Rattle.claims.specs.declared.boxes.Claim.{Claim}
 use Rattle.claims.specs.declared.boxes.Reach.{Reach}
-use Rattle.claims.specs.Blocking.{edges_meet, blocks, blocks_edges}
+use Rattle.claims.specs.Blocking.{edges_meet, blocks_edges}
 use Rattle.surroundings.specs.Asking.{first_blocking, first_none, first_next}
 use Rattle.gate.specs.declared.faults.TickFault.TheVariants.{Measured, Acceleration, Radius, TopSpeed, TurnLimit, Blocked}
 use Rattle.gate.specs.declared.parts.Curve.{Curve}

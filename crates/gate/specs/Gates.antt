@@ -60,8 +60,8 @@ abbrev pub left_by : Gate → Tick → Option Refusal → Gate
 left_by g t None = record { plate = g.plate; curve = t.proposal.curve; ticket = Some (ticket_of g.plate t); state = Open }
 left_by g t (Some refusal) = record { plate = g.plate; curve = g.curve; ticket = g.ticket; state = tripped g.state t.measured }
 
-abbrev pub after-tick : Gate → Tick → Gate
-after-tick g t = left_by g t (tick_refused g t)
+abbrev pub after_tick : Gate → Tick → Gate
+after_tick g t = left_by g t (tick_refused g t)
 
 -- What a tick answers: its order where nothing is refused, and else a fault that says the refusal, with its order.
 abbrev pub TickAnswers : Gate → Tick → Result Order TickRefusal → Type 0
@@ -83,8 +83,8 @@ abbrev pub opened_by : Gate → Option Refusal → Gate
 opened_by g None = record { plate = g.plate; curve = g.curve; ticket = g.ticket; state = Open }
 opened_by g (Some refusal) = g
 
-abbrev pub after-release : Gate → Measurement → Gate
-after-release g q = opened_by g (release_refused g q)
+abbrev pub after_release : Gate → Measurement → Gate
+after_release g q = opened_by g (release_refused g q)
 
 -- the tick of an event, whose claims are the list that its surroundings mean
 abbrev pub asked : Measurement → Order → List Claim → Tick
@@ -102,5 +102,5 @@ Handled claims g (Release q) Opened = release_refused g q ≡ None
 Handled claims g (Release q) (ReleaseRefused e) = release_refused g q ≡ Some (release_fault e)
 
 abbrev pub left : {S : Type 0} → (S → List Claim) → Gate → Event S → Gate
-left claims g (TickEvent q o s) = after-tick g (asked q o (claims s.now))
-left claims g (Release q) = after-release g q
+left claims g (TickEvent q o s) = after_tick g (asked q o (claims s.now))
+left claims g (Release q) = after_release g q

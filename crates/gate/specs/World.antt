@@ -14,7 +14,7 @@ use Rattle.gate.specs.declared.faults.TickFault.TheVariants.{Blocked}
 use Rattle.gate.specs.declared.gates.Gate.{Gate}
 use Rattle.gate.specs.Faults.{tick_fault}
 use Rattle.gate.specs.Checks.{Tick}
-use Rattle.gate.specs.Gates.{tick_refused, tick_order, after-tick, after-release}
+use Rattle.gate.specs.Gates.{tick_refused, tick_order, after_tick, after_release}
 
 -- a and b differ by at most n
 pub record Near (n : ℕ) (a b : ℤ) : Type 0 where
@@ -93,9 +93,9 @@ parked g x y = record { gate = g; cart = record { x = x; y = y; v = 0; order = n
 
 -- One thing that happens, from a world to the next: an accepted tick sets its acceleration for the hold, and was measured within the errors; a refused tick sets the brake; a release sets nothing; in a millisecond the cart changes as `Millisecond` allows. A tick is accepted exactly when the gate refuses nothing.
 pub data Happens (w : World) : Happening → World → Type 0 where
-  accepted : (t : Tick) → tick_refused w.gate t ≡ None → Measures w.gate.plate t.measured w.cart → Happens w (tick t) (record { gate = after-tick w.gate t; cart = driven w.cart t.proposal.acceleration w.gate.plate.hold; clock = w.clock; last = Some (record { at = w.clock; tick = t }) })
-  refused : (t : Tick) (r : Refusal) → tick_refused w.gate t ≡ Some r → Happens w (tick t) (record { gate = after-tick w.gate t; cart = driven w.cart (neg_ℤ (pos w.gate.plate.brake)) 0; clock = w.clock; last = w.last })
-  released : (q : Measurement) → Happens w (release q) (record { gate = after-release w.gate q; cart = w.cart; clock = w.clock; last = w.last })
+  accepted : (t : Tick) → tick_refused w.gate t ≡ None → Measures w.gate.plate t.measured w.cart → Happens w (tick t) (record { gate = after_tick w.gate t; cart = driven w.cart t.proposal.acceleration w.gate.plate.hold; clock = w.clock; last = Some (record { at = w.clock; tick = t }) })
+  refused : (t : Tick) (r : Refusal) → tick_refused w.gate t ≡ Some r → Happens w (tick t) (record { gate = after_tick w.gate t; cart = driven w.cart (neg_ℤ (pos w.gate.plate.brake)) 0; clock = w.clock; last = w.last })
+  released : (q : Measurement) → Happens w (release q) (record { gate = after_release w.gate q; cart = w.cart; clock = w.clock; last = w.last })
   passed : (c : Cart) → Millisecond w.gate.plate w.cart c → Happens w millisecond (record { gate = w.gate; cart = c; clock = suc w.clock; last = w.last })
 
 -- A run: a list of ticks, releases and milliseconds, the newest first, from a gate and a parked cart, and a world to which it may lead.

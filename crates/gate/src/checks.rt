@@ -73,6 +73,7 @@ fn turn_allowed(plate: &Plate, curve: Curve, peak: u64) -> bool
 }
 
 // Where the cart may come, and for how long.
+#[tactic(auto, using(crate::proofs::Checking::reach_made))]
 fn reach_from(plate: &Plate, measured: Measurement, out: RunOut) -> Reach
     requires { (bad_field measured ≡ None) × (out.travel < 2 ^ 53) }
     ensures { result ≡ reach_from plate.now measured out }
@@ -136,6 +137,7 @@ fn of_run_out(fault: RunOutFault) -> TickFault
 }
 
 // The checks of an open gate, in their order: a ticket, or the first fault.
+#[tactic(auto, using(crate::proofs::Checking::measured_refused))]
 pub(crate) fn checked<S: Surroundings>(
     plate: &Plate,
     measured: Measurement,

@@ -1,5 +1,5 @@
 -- When a plate is refused, and which plate is made otherwise. Assumes nothing.
-use Rattle.std.specs.Prelude.{[], ◌∷◌, ℤ, pos, ◌-ℤ◌, ◌≤ℤ◌, ◌<ℤ◌, Option, int_le, int_lt}
+use Rattle.std.specs.Prelude.{[], ◌∷◌, pos, ◌-ℤ◌, ◌≤ℤ◌, ◌<ℤ◌, Option, int_le, int_lt}
 use Rattle.std.specs.Option.{option_map}
 use Rattle.std.specs.List.{AllByRecursion}
 use Rattle.refusals.specs.Refusals.{Refusal}

@@ -4,7 +4,7 @@ ghost use Rattle.refusals.specs.Answers.{Answers};
 ghost use Rattle.gate.specs.Faults.{release_fault};
 ghost use Rattle.gate.specs.declared.parts.Event.TheVariants.{Release};
 ghost use Rattle.gate.specs.declared.parts.State.TheVariants.{Open};
-ghost use Rattle.gate.specs.Gates.{fresh, braking, tripped, asked, TickAnswers, after-tick, release_refused, after-release, Handled, left};
+ghost use Rattle.gate.specs.Gates.{fresh, braking, tripped, asked, TickAnswers, after_tick, release_refused, after_release, Handled, left};
 ghost use Rattle.gate.specs.World.{Guarded, Justified};
 
 use crate::checks::{bad_field, checked};
@@ -45,6 +45,7 @@ fn state_after(measured: Measurement) -> State
 
 impl Gate {
     // A fresh gate. Over a cart of its plate that is parked anywhere, whatever ticks, releases and milliseconds follow, the run is guarded.
+    #[tactic(auto, using(crate::proofs::Runs::guarded))]
     pub fn new(plate: Plate) -> Gate
         ensures made { result ≡ fresh plate }
         ensures guarded { Guarded result }
@@ -65,7 +66,7 @@ impl Gate {
         around: &S,
     ) -> Result<Order, TickRefusal>
         ensures answer { TickAnswers self.old (asked measured proposal (S.Surroundings.claims around.now)) result }
-        ensures gate { self.new ≡ after-tick self.old (asked measured proposal (S.Surroundings.claims around.now)) }
+        ensures gate { self.new ≡ after_tick self.old (asked measured proposal (S.Surroundings.claims around.now)) }
         ensures justified { Justified self.old (asked measured proposal (S.Surroundings.claims around.now)) }
     {
         match self.handle(Event::Tick {
@@ -82,7 +83,7 @@ impl Gate {
     // Opens a tripped gate, or says why not.
     pub fn release(&mut self, measured: Measurement) -> Result<(), ReleaseFault>
         ensures answer { Answers release_fault (release_refused self.old measured) (λ _. Unit {0}) result }
-        ensures gate { self.new ≡ after-release self.old measured }
+        ensures gate { self.new ≡ after_release self.old measured }
     {
         match self.handle(releasing(measured)) {
             Answer::Opened => Ok(()),

@@ -1,5 +1,4 @@
-use Rattle.std.proofs.Common.{◌≡◌, ◌++◌, length, set, replicate, ap, ◌∙◌, arith}
-use Rattle.std.proofs.lemmas.List.Edits.{fill_more}
+use Rattle.std.proofs.Common.{◌≡◌, ◌++◌, length, replicate, ap, ◌∙◌, arith}
 use Rattle.std.proofs.lemmas.List.{drop_all, append-nil}
 use Rattle.floor_writer.proofs.blocks.clear.Goals as goal
 
@@ -8,8 +7,3 @@ returns c =
     let e : c.loop-byte.byte-index ≡ length c.args.block.now = omega arith in
     let d = drop_all c.loop-byte.byte-index c.args.block.now (omega arith) in
     c.loop-byte.invariant ∙ ap (λ l. replicate c.loop-byte.byte-index 0 ++ l) d ∙ append-nil (replicate c.loop-byte.byte-index 0) ∙ ap (λ n. replicate n 0) e
-
-pub loop-byte-preserved : goal.loop-byte-preserved
-loop-byte-preserved c =
-    let i = c.loop-byte.byte-index in
-    ap (λ l. set l i 0) c.loop-byte.invariant ∙ fill_more i 0 c.args.block.now (omega arith)

@@ -1,5 +1,4 @@
 use Rattle.std.proofs.Common.{arith}
-use Rattle.claims.specs.Things.{zero_fixture}
 use Rattle.floor_writer.proofs.Exact.{labels_more, labels_all}
 use Rattle.floor_writer.proofs.writing.all_labelled.Goals as goal
 

@@ -3,11 +3,8 @@ use Rattle.std.proofs.lemmas.Int.{to_z-of_z}
 use Rattle.gate.specs.Faults.{tick_fault}
 use Rattle.gate.specs.Checks.{bad_field}
 use Rattle.gate.specs.Gates.{asked}
-use Rattle.gate.proofs.Checking.{measured_refused, run_out_turned, run_out_next, answers_as}
+use Rattle.gate.proofs.Checking.{run_out_turned, run_out_next, answers_as}
 use Rattle.gate.proofs.checks.checked.Goals as goal
-
-pub returns-in-Some : goal.returns-in-Some
-returns-in-Some g c = measured_refused _ _ c.in-Some.field (sym c.in-Some.ensures)
 
 pub returns-in-Ok : goal.returns-in-Ok
 returns-in-Ok g c =
