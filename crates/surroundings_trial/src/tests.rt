@@ -89,7 +89,7 @@ fn blocking_is_total(rt: HostRuntime) {
             x: all,
             y: all,
             time: 0,
-        })
+        },)
     );
     // speed × time is 2^64 - 2^33 + 1, which falls short of 2^64 - 1 by 2^33 - 2
     let least = i64::MAX - 8_589_934_590;
@@ -98,14 +98,14 @@ fn blocking_is_total(rt: HostRuntime) {
             x: span(least, least),
             y: span(least, least),
             time: u32::MAX,
-        })
+        },)
     );
     assert!(rt;
         !far.blocks(&Reach {
             x: span(least + 1, least + 1),
             y: point,
             time: u32::MAX,
-        })
+        },)
     );
     // a reach with low above high has no point
     assert!(rt;
@@ -113,7 +113,7 @@ fn blocking_is_total(rt: HostRuntime) {
             x: span(1, 0),
             y: all,
             time: u32::MAX,
-        })
+        },)
     );
 }
 
