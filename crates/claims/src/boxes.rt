@@ -4,14 +4,14 @@ ghost use Rattle.std.specs.Int.{int_max, int_min};
 ghost use Rattle.claims.specs.Blocking.{Blocks, grown, meet, edges_meet, blocks};
 
 // The whole numbers from low to high; none where low is above high.
-#[derive(Clone, Copy)]
+#[derive(Clone, Copy, Debug, PartialEq, Eq)]
 pub struct Span {
     pub low: i64,
     pub high: i64,
 }
 
 // A claim: the thing with this label is in the box now, and leaves it on no side faster than speed.
-#[derive(Clone, Copy)]
+#[derive(Clone, Copy, Debug, PartialEq, Eq)]
 pub struct Claim {
     pub label: u32,
     pub x: Span,
@@ -20,7 +20,7 @@ pub struct Claim {
 }
 
 // A reach: the box in which a cart may be within time.
-#[derive(Clone, Copy)]
+#[derive(Clone, Copy, Debug, PartialEq, Eq)]
 pub struct Reach {
     pub x: Span,
     pub y: Span,

@@ -6,7 +6,7 @@ ghost use Rattle.std.proofs.Common.{rules};
 use refusals::{Fault, Layer};
 use std::fmt;
 
-#[derive(Clone, Copy)]
+#[derive(Clone, Copy, Debug, PartialEq, Eq)]
 pub enum ThingFault {
     // the first field out of its range, counted from 1
     OutOfRange(u8),

@@ -26,7 +26,7 @@ pub(crate) fn ordered(x: &Span, y: &Span) -> bool
 }
 
 // A fixture: a row of a table, whatever its fields hold.
-#[derive(Clone, Copy)]
+#[derive(Clone, Copy, Debug, PartialEq, Eq)]
 pub struct Fixture {
     pub label: u32,
     pub x: Span,

@@ -10,7 +10,7 @@ use crate::faults::ThingFault;
 use crate::fixtures::near;
 
 // A mover: a row of a table, whatever its fields hold.
-#[derive(Clone, Copy)]
+#[derive(Clone, Copy, Debug, PartialEq, Eq)]
 pub struct Mover {
     pub label: u32,
     // the centre as it was seen

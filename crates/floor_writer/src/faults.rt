@@ -6,7 +6,7 @@ ghost use Rattle.std.proofs.Common.{rules};
 use refusals::{Fault, Layer};
 use std::fmt;
 
-#[derive(Clone, Copy)]
+#[derive(Clone, Copy, Debug, PartialEq, Eq)]
 pub enum WriteFault {
     // more than 1,024 fixtures
     TooMany,

@@ -11,14 +11,14 @@ use refusals::{Fault, Layer};
 use std::fmt;
 
 // A byte of a floor file: its block, and its place in the block, both from 0.
-#[derive(Clone, Copy)]
+#[derive(Clone, Copy, Debug, PartialEq, Eq)]
 pub struct Place {
     pub block: usize,
     pub byte: usize,
 }
 
 // Why a record is not read, with the place of its first byte.
-#[derive(Clone, Copy)]
+#[derive(Clone, Copy, Debug, PartialEq, Eq)]
 pub enum RecordFault {
     // its numbers make no plate
     NoPlate(Place, PlateFault),
@@ -27,7 +27,7 @@ pub enum RecordFault {
 }
 
 // Why a floor file is not read.
-#[derive(Clone, Copy)]
+#[derive(Clone, Copy, Debug, PartialEq, Eq)]
 pub enum BlockFault {
     // the length is not that of 1 to 80 blocks
     WrongLength,

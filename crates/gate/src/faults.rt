@@ -9,7 +9,7 @@ use std::fmt;
 use surroundings::Claim;
 
 // Why a tick is refused.
-#[derive(Clone, Copy)]
+#[derive(Clone, Copy, Debug, PartialEq, Eq)]
 pub enum TickFault {
     // the gate is tripped
     Tripped,
@@ -74,7 +74,7 @@ impl fmt::Display for TickFault {
 }
 
 // Why a release is refused.
-#[derive(Clone, Copy)]
+#[derive(Clone, Copy, Debug, PartialEq, Eq)]
 pub enum ReleaseFault {
     // the gate is not tripped
     NotTripped,

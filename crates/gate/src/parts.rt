@@ -3,21 +3,21 @@ use crate::faults::{ReleaseFault, TickFault};
 use surroundings::Reach;
 
 // The path that the cart follows: straight on, or an arc of a signed radius in mm.
-#[derive(Clone, Copy)]
+#[derive(Clone, Copy, Debug, PartialEq, Eq)]
 pub enum Curve {
     Straight,
     Arc(i64),
 }
 
 // An acceleration with a curve: what a planner proposes, and what the drive is told.
-#[derive(Clone, Copy)]
+#[derive(Clone, Copy, Debug, PartialEq, Eq)]
 pub struct Order {
     pub acceleration: i64,
     pub curve: Curve,
 }
 
 // What the sensors say.
-#[derive(Clone, Copy)]
+#[derive(Clone, Copy, Debug, PartialEq, Eq)]
 pub struct Measurement {
     pub x: i64,
     pub y: i64,
@@ -25,7 +25,7 @@ pub struct Measurement {
 }
 
 // The name of one of these numbers.
-#[derive(Clone, Copy)]
+#[derive(Clone, Copy, Debug, PartialEq, Eq)]
 pub enum MeasurementField {
     X = 1,
     Y,
@@ -33,21 +33,21 @@ pub enum MeasurementField {
 }
 
 // What an accepted tick leaves standing: its acceleration, and where the cart may come and for how long.
-#[derive(Clone, Copy)]
+#[derive(Clone, Copy, Debug, PartialEq, Eq)]
 pub struct Ticket {
     pub acceleration: i64,
     pub reach: Reach,
 }
 
 // Whether a gate is open, or tripped by a field of a measurement.
-#[derive(Clone, Copy)]
+#[derive(Clone, Copy, Debug, PartialEq, Eq)]
 pub enum State {
     Open,
     Tripped(MeasurementField),
 }
 
 // A refused tick: why, and what the drive is told instead.
-#[derive(Clone, Copy)]
+#[derive(Clone, Copy, Debug, PartialEq, Eq)]
 pub struct TickRefusal {
     pub fault: TickFault,
     pub order: Order,
@@ -67,7 +67,7 @@ pub enum Event<'a, S> {
 }
 
 // What a gate answers to it.
-#[derive(Clone, Copy)]
+#[derive(Clone, Copy, Debug, PartialEq, Eq)]
 pub enum Answer {
     Ordered(Order),
     TickRefused(TickRefusal),

@@ -8,7 +8,7 @@ use runout::{PlateFields, RunOut};
 use surroundings::{Fixture, Mover, Span};
 
 // What is around the cart of a worked tick.
-#[derive(Clone, Copy)]
+#[derive(Clone, Copy, Debug, PartialEq, Eq)]
 pub enum Around {
     Nothing,
     Fixed(Fixture),
@@ -16,7 +16,7 @@ pub enum Around {
 }
 
 // A tick at a fresh gate, its run-out, and the number by which it is refused or 0.
-#[derive(Clone, Copy)]
+#[derive(Clone, Copy, Debug, PartialEq, Eq)]
 pub struct WorkedTick {
     pub fields: PlateFields,
     pub measured: Measurement,

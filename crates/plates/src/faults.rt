@@ -8,7 +8,7 @@ use refusals::{Fault, Layer};
 use std::fmt;
 
 // Why no plate was made.
-#[derive(Clone, Copy)]
+#[derive(Clone, Copy, Debug, PartialEq, Eq)]
 pub enum PlateFault {
     // the first field out of its range
     OutOfRange(PlateField),

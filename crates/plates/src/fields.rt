@@ -5,7 +5,7 @@ ghost use Rattle.plates.specs.Fields.{plate_fields, field_number, field_name, ra
 use std::fmt;
 
 // The numbers of a plate, of any value. Lengths are in nm, times in ms, speeds in nm per ms, accelerations in nm per ms per ms.
-#[derive(Clone, Copy)]
+#[derive(Clone, Copy, Debug, PartialEq, Eq)]
 pub struct PlateFields {
     // how strongly the cart brakes
     pub brake: i64,
@@ -28,7 +28,7 @@ pub struct PlateFields {
 }
 
 // The name of one of these numbers.
-#[derive(Clone, Copy)]
+#[derive(Clone, Copy, Debug, PartialEq, Eq)]
 pub enum PlateField {
     Brake = 1,
     Pull,
@@ -42,7 +42,7 @@ pub enum PlateField {
 }
 
 // The least and the greatest value of a field.
-#[derive(Clone, Copy)]
+#[derive(Clone, Copy, Debug, PartialEq, Eq)]
 pub struct Range {
     pub low: u64,
     pub high: u64,

@@ -1,11 +1,12 @@
 // The layers of the product, and the trait that every fault type implements.
-ghost use Rattle.std.specs.Prelude.{◌≡◌, Some};
+ghost use Rattle.std.specs.Prelude.{◌≡◌, Some, None, cond};
+ghost use Rattle.refusals.specs.Answers.{Answers};
 ghost use Rattle.refusals.specs.Refusals.{Refusal, layer_of, layer_name};
 
 use std::fmt;
 
 // The part of the product that a fault comes from.
-#[derive(Clone, Copy)]
+#[derive(Clone, Copy, Debug, PartialEq, Eq)]
 pub enum Layer {
     // a cart's plate: 11 to 19
     Plate,
@@ -46,4 +47,11 @@ pub trait Fault {
         ensures { result ≡ (says self.now).number };
 
     ghost numbered: { (fault : Self) → layer_of (says fault).number ≡ Some (says fault).layer };
+}
+
+// One check: nothing where it holds, and else its fault. Checks follow one another by `?`.
+pub fn check<F: Fault + Drop>(holds: bool, fault: F) -> Result<(), F>
+    ensures { Answers F.says (cond holds None (Some (F.says fault))) (λ _. Unit {0}) result }
+{
+    if holds { Ok(()) } else { Err(fault) }
 }

@@ -4,5 +4,5 @@
 mod layers;
 mod texts;
 
-pub use layers::{Fault, Layer};
+pub use layers::{Fault, Layer, check};
 pub use texts::Refused;

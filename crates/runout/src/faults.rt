@@ -7,7 +7,7 @@ use refusals::{Fault, Layer};
 use std::fmt;
 
 // Why no run-out was given.
-#[derive(Clone, Copy)]
+#[derive(Clone, Copy, Debug, PartialEq, Eq)]
 pub enum RunOutFault {
     // the measured speed is below 0 or above 10,000,000
     Speed,

@@ -1,5 +1,5 @@
 // What a run-out comes to.
-#[derive(Clone, Copy)]
+#[derive(Clone, Copy, Debug, PartialEq, Eq)]
 pub struct RunOut {
     // in nm
     pub travel: u64,

@@ -7,7 +7,7 @@ use crate::run_outs::RunOut;
 use plates::PlateFields;
 
 // The numbers of a plate, a measured speed and an acceleration, and the run-out that they give.
-#[derive(Clone, Copy)]
+#[derive(Clone, Copy, Debug, PartialEq, Eq)]
 pub struct WorkedSum {
     pub fields: PlateFields,
     pub speed: i64,
