@@ -12,14 +12,14 @@ use Rattle.claims.specs.Things.{fixture_refused}
 use Rattle.floors.specs.declared.faults.Place.{Place}
 use Rattle.floors.specs.declared.faults.BlockFault.TheVariants.{WrongSum, WrongByte}
 use Rattle.floors.specs.Bytes.{le_bytes, le_value, i64_at, i64_bytes, word_sum, sealed, departs}
+use Rattle.floors.specs.Kinds.{block_kind, kind_number}
 use Rattle.floors.specs.Faults.{no_plate, no_fixture, block_fault}
 
 -- ---- what is written
 
--- the kind of block i: 1 the plate's, which is block 0, and 2 one of fixtures
+-- the number of the kind of block i: 1 the plate's, which is block 0, and 2 one of fixtures
 abbrev pub kind_of : ℕ → ℕ
-kind_of zero = 1
-kind_of (suc i) = 2
+kind_of i = kind_number (block_kind i)
 
 -- The head of block i: its kind, how many fixtures it holds, two zeros, and its number in 4 bytes.
 abbrev pub head_bytes : ℕ → ℕ → List ℕ

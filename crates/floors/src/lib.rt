@@ -2,10 +2,15 @@
 #![tactic(auto)]
 
 mod faults;
+mod layout;
 mod sums;
 
 pub use claims::ThingFault;
 pub use faults::{BlockFault, Place, RecordFault};
+pub use layout::{
+    BLOCK, BlockKind, CHECKSUM, FIRST_RECORD, FIXTURE_RECORD, MOST, MOST_BLOCKS, MOST_IN_BLOCK,
+    PLATE_RECORD,
+};
 pub use plates::PlateFault;
 pub use refusals::{Fault, Layer};
 pub use sums::sum_of_words;
