@@ -1,5 +1,6 @@
 -- The nine numbers of a plate: how they count, what they are called, and what range each has. Assumes nothing.
-use Rattle.std.specs.Prelude.{ℕ, ◌≤◌, Bool, cond, ◌&&◌, List, [], ◌∷◌, ℤ, pos, ◌≤ℤ◌, Some, None, codes, Option, int_le, slice_index_or}
+use Rattle.std.specs.Prelude.{ℕ, ◌≤◌, Bool, ◌&&◌, List, [], ◌∷◌, ℤ, pos, ◌≤ℤ◌, codes, Option, int_le, slice_index_or, not}
+use Rattle.std.specs.List.{find}
 use Rattle.plates.specs.declared.fields.PlateField.{PlateField}
 use Rattle.plates.specs.declared.fields.PlateField.TheVariants.{Brake, Pull, DriveError, Hold, SpeedError, PlaceError, TopSpeed, TurnLimit, HalfSide}
 use Rattle.plates.specs.declared.fields.PlateFields.{PlateFields}
@@ -89,5 +90,4 @@ InRange f field = (pos (range_of field).low ≤ℤ given f field) × (given f fi
 
 -- The first of some fields whose number is out of its range.
 unfoldable pub first_outside : PlateFields → List PlateField → Option PlateField
-first_outside f [] = None
-first_outside f (field ∷ fields) = cond (in_range f field) (first_outside f fields) (Some field)
+first_outside f fields = find (λ field. not (in_range f field)) fields

@@ -105,42 +105,67 @@ impl fmt::Display for PlateField {
     }
 }
 
-impl PlateFields {
-    // Nine numbers in the order of the fields.
-    pub fn in_order(numbers: [i64; 9]) -> PlateFields
-        ensures fields { result ≡ in_order numbers }
-        ensures all { length numbers ≡ 9 }
-    {
+// Nine numbers in the order of the fields.
+impl From<[i64; 9]> for PlateFields {
+    ghost from_gives = { λ numbers fields. (fields ≡ in_order numbers) × (length numbers ≡ 9) };
+
+    fn from(numbers: [i64; 9]) -> PlateFields {
+        let [
+            brake,
+            pull,
+            drive_error,
+            hold,
+            speed_error,
+            place_error,
+            top_speed,
+            turn_limit,
+            half_side,
+        ] = numbers;
         PlateFields {
-            brake: numbers[0],
-            pull: numbers[1],
-            drive_error: numbers[2],
-            hold: numbers[3],
-            speed_error: numbers[4],
-            place_error: numbers[5],
-            top_speed: numbers[6],
-            turn_limit: numbers[7],
-            half_side: numbers[8],
+            brake,
+            pull,
+            drive_error,
+            hold,
+            speed_error,
+            place_error,
+            top_speed,
+            turn_limit,
+            half_side,
         }
     }
+}
 
-    // The nine numbers in the order of the fields.
-    pub fn numbers(&self) -> [i64; 9]
-        ensures { result ≡ numbers_of self.now }
-    {
+// The nine numbers in the order of the fields.
+impl From<PlateFields> for [i64; 9] {
+    ghost from_gives = { λ fields numbers. numbers ≡ numbers_of fields };
+
+    fn from(fields: PlateFields) -> [i64; 9] {
+        let PlateFields {
+            brake,
+            pull,
+            drive_error,
+            hold,
+            speed_error,
+            place_error,
+            top_speed,
+            turn_limit,
+            half_side,
+        } = fields;
         [
-            self.given(PlateField::Brake),
-            self.given(PlateField::Pull),
-            self.given(PlateField::DriveError),
-            self.given(PlateField::Hold),
-            self.given(PlateField::SpeedError),
-            self.given(PlateField::PlaceError),
-            self.given(PlateField::TopSpeed),
-            self.given(PlateField::TurnLimit),
-            self.given(PlateField::HalfSide),
+            brake,
+            pull,
+            drive_error,
+            hold,
+            speed_error,
+            place_error,
+            top_speed,
+            turn_limit,
+            half_side,
         ]
     }
+}
 
+impl PlateFields {
     // The number that was given for a field.
     fn given(&self, field: PlateField) -> i64
         ensures { result ≡ given self.now field }
@@ -163,8 +188,7 @@ impl PlateFields {
         ensures { result ≡ in_range self.now field }
     {
         let Range { low, high } = field.range();
-        let value = self.given(field);
-        low as i64 <= value && value <= high as i64
+        (low as i64..=high as i64).contains(&self.given(field))
     }
 
     // The number that was given for a field, which is in its range.
@@ -177,15 +201,11 @@ impl PlateFields {
     }
 
     // The first of some fields whose number is out of its range.
+    #[tactic(auto, unfolding(crate::specs::Fields::first_outside))]
     fn first_outside_of(&self, fields: &[PlateField]) -> Option<PlateField>
         ensures { result ≡ first_outside self.now fields.now }
     {
-        for field in fields {
-            if !self.in_range(*field) {
-                return Some(*field);
-            }
-        }
-        None
+        fields.iter().copied().find(|field| !self.in_range(*field))
     }
 
     // The first field whose number is out of its range.

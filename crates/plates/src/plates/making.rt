@@ -1,39 +1,32 @@
 // A plate from nine numbers.
-ghost use Rattle.std.specs.Prelude.{◌≡◌, IfNone};
-ghost use Rattle.std.specs.Option.{option_map};
+ghost use Rattle.std.specs.Prelude.{◌≡◌};
 ghost use Rattle.refusals.specs.Answers.{Answers};
 ghost use Rattle.plates.specs.Faults.{plate_fault};
-ghost use Rattle.plates.specs.Plates.{relation_refused, plate_refused, Sound, held};
+ghost use Rattle.plates.specs.Plates.{plate_refused, Sound, held};
 
 use crate::faults::PlateFault;
 use crate::fields::{PlateField, PlateFields};
 use crate::plates::Plate;
+use refusals::check;
 
 // The least real braking.
 const LEAST_BRAKING: i64 = 50;
 
-// Why numbers that are each in range make no plate.
-fn relation_fault(fields: &PlateFields) -> Option<PlateFault>
-    ensures { option_map plate_fault result ≡ relation_refused fields.now }
+// The checks of nine numbers, in their order.
+fn checked(fields: &PlateFields) -> Result<(), PlateFault>
+    ensures { Answers plate_fault (plate_refused fields.now) (λ _. Unit {0}) result }
 {
-    if fields.brake.saturating_sub(fields.drive_error) < LEAST_BRAKING {
-        Some(PlateFault::WeakBraking)
-    } else if fields.speed_error >= fields.top_speed {
-        Some(PlateFault::SpeedErrorTooLarge)
-    } else {
-        None
+    if let Some(field) = fields.first_outside() {
+        return Err(PlateFault::OutOfRange(field));
     }
-}
-
-// Why nine numbers make no plate.
-fn fault(fields: &PlateFields) -> Option<PlateFault>
-    ensures told { option_map plate_fault result ≡ plate_refused fields.now }
-    ensures sound { IfNone result (Sound fields.now) }
-{
-    match fields.first_outside() {
-        Some(field) => Some(PlateFault::OutOfRange(field)),
-        None => relation_fault(fields),
-    }
+    check(
+        fields.brake.saturating_sub(fields.drive_error) >= LEAST_BRAKING,
+        PlateFault::WeakBraking,
+    )?;
+    check(
+        fields.speed_error < fields.top_speed,
+        PlateFault::SpeedErrorTooLarge,
+    )
 }
 
 // The plate that holds nine numbers.
@@ -59,9 +52,7 @@ impl Plate {
     pub fn new(fields: PlateFields) -> Result<Plate, PlateFault>
         ensures { Answers plate_fault (plate_refused fields) (λ plate. held plate ≡ fields) result }
     {
-        match fault(&fields) {
-            Some(fault) => Err(fault),
-            None => Ok(holding(fields)),
-        }
+        checked(&fields)?;
+        Ok(holding(fields))
     }
 }
