@@ -1,5 +1,6 @@
 -- The lines that are written of a floor. Assumes nothing.
 use Rattle.std.specs.Prelude.{ℕ, List, [], ◌∷◌, ◌++◌, ℤ, Some, None, codes, decimal, Option}
+use Rattle.std.specs.List.{flat_map}
 use Rattle.std.specs.Fmt.{signed_decimal}
 use Rattle.plates.specs.declared.fields.PlateFields.{PlateFields}
 use Rattle.plates.specs.Fields.{numbers_of}
@@ -10,8 +11,7 @@ use Rattle.floors.specs.Faults.{block_fault, fault_place, inner_number}
 
 -- numbers, each after a blank
 abbrev pub blanked : List ℤ → List ℕ
-blanked [] = []
-blanked (n ∷ numbers) = codes " " ++ (signed_decimal n ++ blanked numbers)
+blanked numbers = flat_map (λ n. codes " " ++ signed_decimal n) numbers
 
 -- `plate` and the nine numbers
 abbrev pub plate_line : PlateFields → List ℕ

@@ -1,11 +1,27 @@
 // The lines that are written of a floor.
 ghost use Rattle.std.specs.Prelude.{Some};
 ghost use Rattle.plates.specs.Plates.{held};
-ghost use Rattle.roll_call.specs.Lines.{plate_line, fixture_line, count_line, fault_line};
+ghost use Rattle.roll_call.specs.Lines.{blanked, plate_line, fixture_line, count_line, fault_line};
 
 use floor_reader::{BlockFault, Fault, Fixture, Place, Plate};
-use numerals::{Signed, Unsigned};
+use numerals::Numeral;
 use std::fmt;
+
+// Numbers, each after a blank.
+#[derive(Clone, Copy)]
+struct Blanked<const N: usize>([i64; N]);
+
+impl<const N: usize> fmt::Display for Blanked<N> {
+    ghost output = { λ numbers. Some (blanked numbers.0) };
+
+    fn fmt<W: fmt::Write>(&self, f: &mut fmt::Formatter<W>) -> fmt::Result {
+        for number in self.0 {
+            let number = Numeral(i128::from(number));
+            write!(f, " {number}")?;
+        }
+        Ok(())
+    }
+}
 
 // The line of a plate.
 #[derive(Clone, Copy)]
@@ -15,19 +31,8 @@ impl fmt::Display for PlateLine {
     ghost output = { λ line. Some (plate_line (held line.0)) };
 
     fn fmt<W: fmt::Write>(&self, f: &mut fmt::Formatter<W>) -> fmt::Result {
-        let brake = Unsigned(self.0.brake());
-        let pull = Unsigned(self.0.pull());
-        let drive_error = Unsigned(self.0.drive_error());
-        let hold = Unsigned(self.0.hold());
-        let speed_error = Unsigned(self.0.speed_error());
-        let place_error = Unsigned(self.0.place_error());
-        let top_speed = Unsigned(self.0.top_speed());
-        let turn_limit = Unsigned(self.0.turn_limit());
-        let half_side = Unsigned(self.0.half_side());
-        write!(
-            f,
-            "plate {brake} {pull} {drive_error} {hold} {speed_error} {place_error} {top_speed} {turn_limit} {half_side}"
-        )
+        let numbers = Blanked(self.0.fields().numbers());
+        write!(f, "plate{numbers}")
     }
 }
 
@@ -40,12 +45,9 @@ impl fmt::Display for FixtureLine {
 
     fn fmt<W: fmt::Write>(&self, f: &mut fmt::Formatter<W>) -> fmt::Result {
         let Fixture { label, x, y } = self.0;
-        let label = Unsigned(u64::from(label));
-        let low_x = Signed(x.low);
-        let high_x = Signed(x.high);
-        let low_y = Signed(y.low);
-        let high_y = Signed(y.high);
-        write!(f, "{label} {low_x} {high_x} {low_y} {high_y}")
+        let label = Numeral(i128::from(label));
+        let edges = Blanked([x.low, x.high, y.low, y.high]);
+        write!(f, "{label}{edges}")
     }
 }
 
@@ -57,7 +59,7 @@ impl fmt::Display for CountLine {
     ghost output = { λ line. Some (count_line line.0) };
 
     fn fmt<W: fmt::Write>(&self, f: &mut fmt::Formatter<W>) -> fmt::Result {
-        let count = Unsigned(self.0 as u64);
+        let count = Numeral(i128::from(self.0 as u64));
         write!(f, "{count} fixtures")
     }
 }
@@ -70,12 +72,12 @@ impl fmt::Display for FaultLine {
     ghost output = { λ line. Some (fault_line line.0) };
 
     fn fmt<W: fmt::Write>(&self, f: &mut fmt::Formatter<W>) -> fmt::Result {
-        let number = Unsigned(u64::from(self.0.number()));
-        let inner = Unsigned(u64::from(self.0.inner()));
+        let number = Numeral(i128::from(self.0.number()));
+        let inner = Numeral(i128::from(self.0.inner()));
         match self.0.place() {
             Some(Place { block, byte }) => {
-                let block = Unsigned(block as u64);
-                let byte = Unsigned(byte as u64);
+                let block = Numeral(i128::from(block as u64));
+                let byte = Numeral(i128::from(byte as u64));
                 write!(f, "fault {number} block {block} byte {byte} inner {inner}")
             }
             None => write!(f, "fault {number}"),
