@@ -1,6 +1,6 @@
 -- What speeds, one for each ms, come to: travel, time and peak.
 -- Lengths are in nm, speeds in nm per ms, changes of speed in nm per ms per ms. Assumes nothing.
-use Rattle.std.specs.Prelude.{◌≡◌, ℕ, zero, suc, ◌+◌, ◌-◌, ◌*◌, ◌≤◌, max, cond, ℤ, pos, negsuc, ◌==◌}
+use Rattle.std.specs.Prelude.{◌≡◌, ℕ, zero, suc, ◌+◌, ◌-◌, ◌*◌, ◌^◌, ◌<◌, ◌≤◌, max, cond, ℤ, pos, negsuc, ◌==◌}
 use Rattle.std.proofs.Math.Path.{refl}
 use Rattle.runout.specs.declared.run_outs.RunOut.{RunOut}
 
@@ -68,3 +68,7 @@ pub record IsRunOut (e : ℕ → ℕ) (travel time peak : ℕ) : Type 0 where
 -- The same of the three numbers as one value: out is the run-out of the speeds e.
 abbrev pub RunOutOf : (ℕ → ℕ) → RunOut → Type 0
 RunOutOf e out = IsRunOut e out.travel out.time out.peak
+
+-- A run-out's numbers are far below the ends of their types.
+abbrev pub Small : RunOut → Type 0
+Small out = (out.travel < 2 ^ 53) × (out.time < 2 ^ 26) × (out.peak < 2 ^ 25)

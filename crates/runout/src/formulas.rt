@@ -1,7 +1,7 @@
 // The run-out: how far, how long and how fast a cart may go, through a hold at one acceleration and then under the brake to rest.
 ghost use Rattle.std.specs.Prelude.{◌≡◌, ◌+◌, ◌*◌, ◌/◌, ◌^◌, ◌<◌, ◌≤◌, pos, neg_ℤ, ◌≤ℤ◌, IfOk};
 ghost use Rattle.refusals.specs.Answers.{Answers};
-ghost use Rattle.runout.specs.Speeds.{RunOutOf};
+ghost use Rattle.runout.specs.Speeds.{RunOutOf, Small};
 ghost use Rattle.runout.specs.Formulas.{evenly_spaced, stop_formula, rise_formula, fall_formula};
 ghost use Rattle.runout.specs.Faults.{run_out_fault};
 ghost use Rattle.runout.specs.RunOuts.{run_out_refused, speeds, run_out, HoldThenBrake};
@@ -9,9 +9,10 @@ ghost use Rattle.runout.specs.RunOuts.{run_out_refused, speeds, run_out, HoldThe
 use crate::faults::RunOutFault;
 use crate::run_outs::RunOut;
 use plates::Plate;
+use refusals::check;
 
 // No cart is measured faster, in nm per ms.
-const FASTEST: i64 = 10_000_000;
+pub const FASTEST: i64 = 10_000_000;
 
 // The sum of count numbers, evenly spaced from first to last.
 fn evenly_spaced(count: u64, first: u64, last: u64) -> u64
@@ -20,15 +21,6 @@ fn evenly_spaced(count: u64, first: u64, last: u64) -> u64
     ensures small { result < 2 ^ 51 }
 {
     count * (first + last) / 2
-}
-
-// How much the speed changes in a hold, by step in each ms.
-fn over_hold(hold: u64, step: u64) -> u64
-    requires { (hold ≤ 500) × (step ≤ 29950) }
-    ensures value { result ≡ hold * step }
-    ensures small { result ≤ 14975000 }
-{
-    hold * step
 }
 
 // A speed that falls by rate in each ms.
@@ -45,48 +37,72 @@ fn stop(speed: u64, rate: u64) -> RunOut
     }
 }
 
-// A hold in which the speed rises by step in each ms, or stays, and then the brake.
-fn rising(start: u64, step: u64, hold: u64, braking: u64) -> RunOut
-    requires hold { (start ≤ 11000000) × ((step ≤ 29950) × (hold ≤ 500)) }
-    requires brake { (0 < braking) × (braking ≤ 20000) }
-    ensures value { result ≡ rise_formula hold step braking start }
-    ensures small { (result.travel < 2 ^ 53) × ((result.time < 2 ^ 26) × (result.peak < 2 ^ 25)) }
-{
-    let end = start + over_hold(hold, step);
-    if end == 0 {
-        // nothing moves at all
-        return RunOut {
-            travel: 0,
-            time: 0,
-            peak: 0,
-        };
-    }
-    let brake = stop(end, braking);
-    RunOut {
-        travel: evenly_spaced(hold, start + step, end) + brake.travel,
-        time: hold as u32 + brake.time,
-        peak: end,
-    }
+// A hold in which the speed changes by step in each ms, and then the brake.
+#[derive(Drop)]
+struct Journey {
+    // the speed at first
+    start: u64,
+    step: u64,
+    // how long the hold is, in ms
+    hold: u64,
+    // how much the speed falls in each ms of the brake
+    braking: u64,
+    ghost start_small: { start ≤ 11000000 },
+    ghost step_small: { step ≤ 29950 },
+    ghost hold_small: { hold ≤ 500 },
+    ghost brakes: { 0 < braking },
+    ghost braking_small: { braking ≤ 20000 },
 }
 
-// A hold in which the speed falls by step in each ms, and then the brake.
-fn falling(start: u64, step: u64, hold: u64, braking: u64) -> RunOut
-    requires hold { (start ≤ 11000000) × ((0 < step) × ((step ≤ 20000) × (hold ≤ 500))) }
-    requires brake { (0 < braking) × (braking ≤ 20000) }
-    ensures value { result ≡ fall_formula hold step braking start }
-    ensures small { (result.travel < 2 ^ 53) × ((result.time < 2 ^ 26) × (result.peak < 2 ^ 25)) }
-{
-    let loss = over_hold(hold, step);
-    if start <= loss {
-        // at rest before the hold ends
-        return stop(start, step);
+impl Journey {
+    // How much the speed changes in the hold.
+    fn change(&self) -> u64
+        ensures value { result ≡ self.now.hold * self.now.step }
+        ensures small { result ≤ 14975000 }
+    {
+        self.hold * self.step
     }
-    let end = start - loss;
-    let brake = stop(end, braking);
-    RunOut {
-        travel: evenly_spaced(hold, end + step, start) + brake.travel,
-        time: hold as u32 + brake.time,
-        peak: start,
+
+    // The run-out where the speed rises in the hold, or stays.
+    fn rising(&self) -> RunOut
+        ensures value { result ≡ rise_formula self.now.hold self.now.step self.now.braking self.now.start }
+        ensures small { Small result }
+    {
+        let end = self.start + self.change();
+        if end == 0 {
+            // nothing moves at all
+            return RunOut {
+                travel: 0,
+                time: 0,
+                peak: 0,
+            };
+        }
+        let brake = stop(end, self.braking);
+        RunOut {
+            travel: evenly_spaced(self.hold, self.start + self.step, end) + brake.travel,
+            time: self.hold as u32 + brake.time,
+            peak: end,
+        }
+    }
+
+    // The run-out where the speed falls in the hold.
+    fn falling(&self) -> RunOut
+        requires { 0 < self.now.step }
+        ensures value { result ≡ fall_formula self.now.hold self.now.step self.now.braking self.now.start }
+        ensures small { Small result }
+    {
+        let loss = self.change();
+        if self.start <= loss {
+            // at rest before the hold ends
+            return stop(self.start, self.step);
+        }
+        let end = self.start - loss;
+        let brake = stop(end, self.braking);
+        RunOut {
+            travel: evenly_spaced(self.hold, end + self.step, self.start) + brake.travel,
+            time: self.hold as u32 + brake.time,
+            peak: self.start,
+        }
     }
 }
 
@@ -97,16 +113,20 @@ fn worst(plate: &Plate, speed: i64, acceleration: i64) -> RunOut
     ensures value { result ≡ run_out plate.now speed acceleration }
     ensures journey { RunOutOf (speeds plate.now speed acceleration) result }
     ensures braked { HoldThenBrake plate.now speed acceleration result }
-    ensures small { (result.travel < 2 ^ 53) × ((result.time < 2 ^ 26) × (result.peak < 2 ^ 25)) }
+    ensures small { Small result }
 {
     let start = speed as u64 + plate.speed_error();
     let change = acceleration + plate.drive_error() as i64;
-    let step = change.unsigned_abs();
-    let braking = plate.brake() - plate.drive_error();
+    let journey = Journey {
+        start,
+        step: change.unsigned_abs(),
+        hold: plate.hold(),
+        braking: plate.brake() - plate.drive_error(),
+    };
     if change < 0 {
-        falling(start, step, plate.hold(), braking)
+        journey.falling()
     } else {
-        rising(start, step, plate.hold(), braking)
+        journey.rising()
     }
 }
 
@@ -115,13 +135,14 @@ pub fn run_out(plate: &Plate, speed: i64, acceleration: i64) -> Result<RunOut, R
     ensures answer { Answers run_out_fault (run_out_refused plate.now speed acceleration) (λ out. out ≡ run_out plate.now speed acceleration) result }
     ensures journey { IfOk result (RunOutOf (speeds plate.now speed acceleration)) }
     ensures braked { IfOk result (HoldThenBrake plate.now speed acceleration) }
-    ensures small { IfOk result (λ out. (out.travel < 2 ^ 53) × (out.time < 2 ^ 26) × (out.peak < 2 ^ 25)) }
+    ensures small { IfOk result Small }
 {
-    if speed < 0 || speed > FASTEST {
-        return Err(RunOutFault::Speed);
-    }
-    if acceleration < -(plate.brake() as i64) || acceleration > plate.pull() as i64 {
-        return Err(RunOutFault::Acceleration);
-    }
+    check(0 <= speed && speed <= FASTEST, RunOutFault::Speed)?;
+    let brake = plate.brake() as i64;
+    let pull = plate.pull() as i64;
+    check(
+        -brake <= acceleration && acceleration <= pull,
+        RunOutFault::Acceleration,
+    )?;
     Ok(worst(plate, speed, acceleration))
 }

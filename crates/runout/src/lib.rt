@@ -7,8 +7,8 @@ mod run_outs;
 mod sums;
 
 pub use faults::RunOutFault;
-pub use formulas::run_out;
+pub use formulas::{FASTEST, run_out};
 pub use plates::{Plate, PlateFault, PlateField, PlateFields, Range};
 pub use refusals::{Fault, Layer};
 pub use run_outs::RunOut;
-pub use sums::{WorkedSum, worked_sums};
+pub use sums::{EXACT, SAMPLE, WorkedSum, worked_sums};

@@ -1,4 +1,4 @@
-// What a run-out comes to.
+// What a run-out comes to. That its numbers are small, which each run-out of a plate ensures as `Small`, is no ghost field: the fields are public, and whoever builds a run-out would be asked for it.
 #[derive(Clone, Copy, Debug, PartialEq, Eq)]
 pub struct RunOut {
     // in nm

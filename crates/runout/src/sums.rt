@@ -15,7 +15,8 @@ pub struct WorkedSum {
     pub out: RunOut,
 }
 
-const SAMPLE: PlateFields = PlateFields {
+// A sample plate, of which most worked sums are.
+pub const SAMPLE: PlateFields = PlateFields {
     brake: 1_200,
     pull: 800,
     drive_error: 200,
@@ -28,7 +29,7 @@ const SAMPLE: PlateFields = PlateFields {
 };
 
 // The sample plate without drive error and speed error.
-const EXACT: PlateFields = PlateFields {
+pub const EXACT: PlateFields = PlateFields {
     drive_error: 0,
     speed_error: 0,
     ..SAMPLE
@@ -50,21 +51,13 @@ macro_rules! row {
     };
 }
 
-// The table, which is right as it was worked out.
-fn checked(table: [WorkedSum; 7]) -> [WorkedSum; 7]
-    requires { table ≡ worked_sums }
-    ensures table { result ≡ worked_sums }
-    ensures right { AllByRecursion Right result }
-{
-    table
-}
-
 // The table of worked sums, each of which is right.
+#[tactic(auto, using(crate::proofs::WorkedSums::sums_right))]
 pub fn worked_sums() -> [WorkedSum; 7]
     ensures table { result ≡ worked_sums }
     ensures right { AllByRecursion Right result }
 {
-    checked([
+    [
         row!(SAMPLE, 990_000, -200 => 600_500_000, 1_100, 1_000_000),
         row!(SAMPLE, 990_000, 600 => 687_780_000, 1_180, 1_080_000),
         row!(SAMPLE, 30_000, -1_200 => 820_000, 40, 40_000),
@@ -72,5 +65,5 @@ pub fn worked_sums() -> [WorkedSum; 7]
         row!(SAMPLE, 30_000, -1_000 => 1_020_000, 50, 40_000),
         row!(EXACT, 0, 0 => 0, 0, 0),
         row!(EXACT, 0, 1 => 5_150, 101, 100),
-    ])
+    ]
 }
