@@ -1,7 +1,7 @@
 -- The one question to surroundings: the first claim of a list that blocks a reach, or none. Assumes nothing.
 use Rattle.std.specs.Prelude.{◌≡◌, cond, List, [], ◌∷◌, ◌++◌, Some, None, Option}
 use Rattle.std.proofs.Math.Path.{refl}
-use Rattle.std.specs.List.{AllByRecursion}
+use Rattle.std.specs.List.{AllByRecursion, find}
 use Rattle.claims.specs.declared.boxes.Claim.{Claim}
 use Rattle.claims.specs.declared.boxes.Reach.{Reach}
 use Rattle.claims.specs.Blocking.{Blocks, blocks}
@@ -16,15 +16,9 @@ FirstBlocking cs r None = AllByRecursion (Clear r) cs
 FirstBlocking cs r (Some c) =
     (front : List Claim) × (back : List Claim) × (cs ≡ front ++ c ∷ back) × AllByRecursion (Clear r) front × Blocks c r
 
--- the answer of one list, or else of the next
-abbrev pub or_next : Option Claim → Option Claim → Option Claim
-or_next (Some c) next = Some c
-or_next None next = next
-
--- What the question answers, as a value.
-pub first_blocking : List Claim → Reach → Option Claim
-first_blocking [] r = None
-first_blocking (c ∷ cs) r = cond (blocks c r) (Some c) (first_blocking cs r)
+-- What the question answers, as a value: the first claim of the list that blocks the reach.
+unfoldable pub first_blocking : List Claim → Reach → Option Claim
+first_blocking cs r = find (λ c. blocks c r) cs
 
 -- What is known of it elsewhere; that it is the one `FirstBlocking` is a law in proofs/.
 module _ (r : Reach) where

@@ -3,7 +3,7 @@ ghost use Rattle.std.specs.Prelude.{◌≡◌, List, Option};
 ghost use Rattle.std.specs.List.{AllByRecursion};
 ghost use Rattle.claims.specs.declared.boxes.Claim.{Claim};
 ghost use Rattle.claims.specs.Limits.{Sound};
-ghost use Rattle.surroundings.specs.Asking.{FirstBlocking, or_next, first_blocking};
+ghost use Rattle.surroundings.specs.Asking.{FirstBlocking, first_blocking};
 
 use claims::{Claim, Reach};
 
@@ -29,35 +29,12 @@ impl<S: Surroundings> Surroundings for &S {
     }
 }
 
-// The answer of one list, or else that of the next.
-pub(crate) fn or_next<S: Surroundings>(
-    found: Option<Claim>,
-    next: &S,
-    reach: &Reach,
-) -> Option<Claim>
-    ensures { result ≡ or_next found (first_blocking (S.Surroundings.claims next.now) reach.now) }
-{
-    if found.is_some() {
-        return found;
-    }
-    next.first_blocking(reach)
-}
-
-// The answer of surroundings is the first claim of their list that blocks, in plain words, and no other answer is.
-fn first_of_list<S: Surroundings>(around: &S, reach: &Reach, answer: Option<Claim>) -> Option<Claim>
-    requires { answer ≡ first_blocking (S.Surroundings.claims around.now) reach.now }
-    ensures value { result ≡ first_blocking (S.Surroundings.claims around.now) reach.now }
-    ensures first { FirstBlocking (S.Surroundings.claims around.now) reach.now result }
-    ensures only { (o : Option Claim) → FirstBlocking (S.Surroundings.claims around.now) reach.now o → o ≡ result }
-{
-    answer
-}
-
 // The first claim of any surroundings that blocks a reach, or none.
+#[tactic(auto, using(crate::proofs::AskLaws::first_said, crate::proofs::AskLaws::first_only))]
 pub fn ask<S: Surroundings>(around: &S, reach: &Reach) -> Option<Claim>
     ensures value { result ≡ first_blocking (S.Surroundings.claims around.now) reach.now }
     ensures first { FirstBlocking (S.Surroundings.claims around.now) reach.now result }
     ensures only { (o : Option Claim) → FirstBlocking (S.Surroundings.claims around.now) reach.now o → o ≡ result }
 {
-    first_of_list(around, reach, around.first_blocking(reach))
+    around.first_blocking(reach)
 }

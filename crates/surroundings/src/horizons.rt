@@ -4,7 +4,7 @@ ghost use Rattle.claims.specs.Horizons.{strips};
 ghost use Rattle.claims.proofs.SoundLaws.{append_sound, strips_sound};
 ghost use Rattle.surroundings.specs.Asking.{first_blocking};
 
-use crate::asking::{Surroundings, or_next};
+use crate::asking::Surroundings;
 use claims::{Claim, Reach, Seen};
 
 // The four strips around the rectangle that is seen, and then the claims of the surroundings below.
@@ -19,26 +19,16 @@ impl<S: Surroundings> Surroundings for Horizon<S> {
 
     ghost sound = { λ h. append_sound (strips h.seen.x h.seen.y h.seen.speed) (S.Surroundings.claims h.below) (strips_sound h.seen.x h.seen.y h.seen.speed h.seen.low_x_near h.seen.high_x_near h.seen.low_y_near h.seen.high_y_near h.seen.speed_ranged) (S.Surroundings.sound h.below) };
 
+    #[tactic(auto, using(crate::proofs::AskLaws::first_after_strips))]
     fn first_blocking(&self, reach: &Reach) -> Option<Claim> {
-        or_next(first_strip(&self.seen, reach), &self.below, reach)
+        first_claim(&self.seen.strips(), reach).or_else(|| self.below.first_blocking(reach))
     }
 }
 
-// The first of the four strips that blocks the reach.
-fn first_strip(seen: &Seen, reach: &Reach) -> Option<Claim>
-    ensures { result ≡ first_blocking (strips seen.now.x seen.now.y seen.now.speed) reach.now }
-{
-    first_claim(&seen.strips(), reach)
-}
-
-// The first of some claims that blocks the reach.
+// The first of some claims that blocks the reach. Apart from the strips, which the check would open down to their edges before it looks for the chain's proof.
+#[tactic(auto, unfolding(crate::specs::Asking::first_blocking))]
 fn first_claim(claims: &[Claim], reach: &Reach) -> Option<Claim>
     ensures { result ≡ first_blocking claims.now reach.now }
 {
-    for claim in claims {
-        if claim.blocks(reach) {
-            return Some(*claim);
-        }
-    }
-    None
+    claims.iter().copied().find(|claim| claim.blocks(reach))
 }

@@ -13,18 +13,14 @@ pub trait Kind {
     const GREATEST_SPEED: u32;
 
     // the same number, for clauses
-    ghost greatest: { ℕ };
+    ghost GREATEST_SPEED: { ℕ };
 
     // what a thing claims
     ghost claim: { Self → Claim };
 
     ghost sound: { (thing : Self) → Sound (claim thing) };
 
-    ghost slow: { (thing : Self) → NoFaster greatest (claim thing) };
-
-    // The constant: what generic code asks for, as no clause can name the constant itself.
-    fn fastest() -> u32
-        ensures { result ≡ greatest };
+    ghost slow: { (thing : Self) → NoFaster GREATEST_SPEED (claim thing) };
 
     // What the thing claims.
     fn claim(&self) -> Claim
@@ -34,17 +30,13 @@ pub trait Kind {
 impl Kind for Fixture {
     const GREATEST_SPEED: u32 = 0;
 
-    ghost greatest = { 0 };
+    ghost GREATEST_SPEED = { 0 };
 
     ghost claim = { fixture_claim };
 
     ghost sound = { fixture_sound };
 
     ghost slow = { fixture_slow };
-
-    fn fastest() -> u32 {
-        Self::GREATEST_SPEED
-    }
 
     fn claim(&self) -> Claim {
         Fixture::as_claim(self)
@@ -54,17 +46,13 @@ impl Kind for Fixture {
 impl Kind for Mover {
     const GREATEST_SPEED: u32 = 20_000_000;
 
-    ghost greatest = { 20000000 };
+    ghost GREATEST_SPEED = { 20000000 };
 
     ghost claim = { mover_claim };
 
     ghost sound = { mover_sound };
 
     ghost slow = { mover_slow };
-
-    fn fastest() -> u32 {
-        Self::GREATEST_SPEED
-    }
 
     fn claim(&self) -> Claim {
         Mover::as_claim(self)

@@ -2,7 +2,7 @@
 ghost use Rattle.std.specs.Prelude.{◌++◌};
 ghost use Rattle.claims.proofs.SoundLaws.{append_sound};
 
-use crate::asking::{Surroundings, or_next};
+use crate::asking::Surroundings;
 use claims::{Claim, Reach};
 
 // The claims of the first, and then those of the second.
@@ -17,7 +17,10 @@ impl<A: Surroundings, B: Surroundings> Surroundings for Pair<A, B> {
 
     ghost sound = { λ pair. append_sound (A.Surroundings.claims pair.first) (B.Surroundings.claims pair.second) (A.Surroundings.sound pair.first) (B.Surroundings.sound pair.second) };
 
+    #[tactic(auto, using(crate::proofs::AskLaws::first_append))]
     fn first_blocking(&self, reach: &Reach) -> Option<Claim> {
-        or_next(self.first.first_blocking(reach), &self.second, reach)
+        self.first
+            .first_blocking(reach)
+            .or_else(|| self.second.first_blocking(reach))
     }
 }

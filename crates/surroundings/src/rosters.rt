@@ -1,23 +1,36 @@
 // Rosters: tables of things of one kind.
-ghost use Rattle.std.specs.Prelude.{◌≡◌, map, length};
+ghost use Rattle.std.specs.Prelude.{◌≡◌, ◌≤◌, map, length};
 ghost use Rattle.refusals.specs.Answers.{Answers};
 ghost use Rattle.claims.specs.Faults.{thing_fault};
 ghost use Rattle.claims.proofs.SoundLaws.{rows_sound};
-ghost use Rattle.surroundings.specs.Asking.{first_blocking};
 ghost use Rattle.surroundings.specs.Rosters.{roster_refused};
 
 use crate::asking::Surroundings;
 use crate::kinds::Kind;
 use claims::{Claim, Reach, ThingFault};
+use std::alloc::AllocError;
 
 // The most things that a roster may stand over.
 const MOST: usize = 1_024;
 
 // The claims of the things of a table, in table order.
-#[derive_where(Clone, Copy)]
 pub struct Roster<'a, T> {
     rows: &'a [T],
+    ghost few: { length rows.now ≤ 1024 },
 }
+
+// Copied whatever the rows are. By hand, as no derive takes a ghost field without a bound on `T`.
+impl<T> Clone for Roster<'_, T> {
+    ghost is_clone = { λ roster copy. copy ≡ roster };
+
+    ghost is_infallible = { λ _. Unit {0} };
+
+    fn clone(&self) -> Result<Self, AllocError> {
+        Ok(*self)
+    }
+}
+
+impl<T> Copy for Roster<'_, T> {}
 
 impl<'a, T: Kind> Roster<'a, T> {
     // The roster over a table, unless it has more than 1,024 things.
@@ -36,20 +49,11 @@ impl<T: Kind> Surroundings for Roster<'_, T> {
 
     ghost sound = { λ roster. rows_sound T.Kind.claim T.Kind.sound roster.rows.now };
 
+    #[tactic(auto, unfolding(crate::specs::Asking::first_blocking))]
     fn first_blocking(&self, reach: &Reach) -> Option<Claim> {
-        first_row(self.rows, reach)
+        self.rows
+            .iter()
+            .map(|row| row.claim())
+            .find(|claim| claim.blocks(reach))
     }
-}
-
-// The first claim of some rows that blocks the reach.
-fn first_row<T: Kind>(rows: &[T], reach: &Reach) -> Option<Claim>
-    ensures { result ≡ first_blocking (map T.Kind.claim rows.now) reach.now }
-{
-    for row in rows {
-        let claim = row.claim();
-        if claim.blocks(reach) {
-            return Some(claim);
-        }
-    }
-    None
 }

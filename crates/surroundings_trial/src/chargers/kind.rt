@@ -38,17 +38,13 @@ impl Charger {
 impl Kind for Charger {
     const GREATEST_SPEED: u32 = 0;
 
-    ghost greatest = { 0 };
+    ghost GREATEST_SPEED = { 0 };
 
     ghost claim = { charger_claim };
 
     ghost sound = { charger_sound };
 
     ghost slow = { charger_slow };
-
-    fn fastest() -> u32 {
-        Self::GREATEST_SPEED
-    }
 
     fn claim(&self) -> Claim {
         Claim {
