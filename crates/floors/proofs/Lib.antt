@@ -1,3 +1,4 @@
+pub mod Chunks
 pub mod LittleEndian
 pub mod Pieces
 pub mod WordSums

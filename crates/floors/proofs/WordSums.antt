@@ -1,26 +1,33 @@
 -- Sums of words: a block that is sealed sums to 0, and one that sums to 0 is sealed. Assumes nothing.
-use Rattle.std.proofs.Common.{◌≡◌, ℕ, zero, suc, ◌+◌, ◌-◌, ◌*◌, ◌%◌, ◌<◌, List, [], ◌∷◌, ◌++◌, length, get_or, take, drop, sym, refl, ap, ◌∙◌, arith}
+use Rattle.std.proofs.Common.{◌≡◌, ℕ, zero, suc, ◌+◌, ◌*◌, ◌/◌, ◌%◌, ◌<◌, List, [], ◌∷◌, ◌++◌, length, get_or, take, drop, sym, refl, ap, ◌∙◌, arith, w16}
 use Rattle.std.proofs.lemmas.List.{drop_more, drop_all, length-drop, take-append-drop, get_or-drop, length-take-le}
 use Rattle.floors.specs.Bytes.{word_sum, checksum, sealed, le_bytes, Octets}
+use Rattle.std.specs.Int.{from_le_bytes}
+use Rattle.std.specs.Simd.{first_chunks}
+use Rattle.floors.proofs.Chunks.{chunk_at}
 use Rattle.floors.proofs.LittleEndian.{le_bytes_value}
 
--- one word of what is left of a list
-pub word_sum_step : (bs : List ℕ) (i : ℕ) → 2 * i + 1 < length bs
-    → word_sum (drop (2 * i) bs) ≡ get_or bs (2 * i) 0 + 256 * get_or bs (2 * i + 1) 0 + word_sum (drop (2 * (i + 1)) bs)
-word_sum_step bs i h =
+-- the first word of what is left of a list, and what is left then
+pub word_sum_chunk : (bs : List ℕ) (i : ℕ) → i < length bs / 2
+    → word_sum (drop (2 * i) bs) ≡ from_le_bytes w16 (get_or (first_chunks 2 (length bs / 2) bs) i []) + word_sum (drop (2 * (i + 1)) bs)
+word_sum_chunk bs i h =
     let p : 2 * i < length bs = omega arith in
+    let q : 2 * i + 1 < length bs = omega arith in
     let e : 2 * i + 1 + 1 ≡ 2 * (i + 1) = omega arith in
-    rw (drop_more bs (2 * i) 0, drop_more bs (2 * i + 1) 0, e)
+    rw (chunk_at 2 (length bs / 2) i bs [] h, drop_more bs (2 * i) 0 p, drop_more bs (2 * i + 1) 0 q, e) (omega arith)
 
--- nothing is left, or a single byte
+-- past the last word nothing is left, or a single byte
 pub word_sum_even : (bs : List ℕ) (i : ℕ) → length bs ≡ 2 * i → word_sum (drop (2 * i) bs) ≡ 0
 word_sum_even bs i h = ap word_sum (drop_all (2 * i) bs (omega arith))
 
-pub word_sum_odd : (bs : List ℕ) (i : ℕ) → length bs ≡ 2 * i + 1 → word_sum (drop (2 * i) bs) ≡ get_or bs (length bs - 1) 0
+pub word_sum_odd : (bs : List ℕ) (i : ℕ) → length bs ≡ 2 * i + 1 → word_sum (drop (2 * i) bs) ≡ get_or (drop (length bs / 2 * 2) bs) 0 0
 word_sum_odd bs i h =
-    let at : length bs - 1 ≡ 2 * i = omega arith in
+    let e : length bs / 2 * 2 ≡ 2 * i = omega arith in
     let left : drop (2 * i + 1) bs ≡ [] = drop_all (2 * i + 1) bs (omega arith) in
-    ap word_sum (drop_more bs (2 * i) 0 (omega arith) ∙ ap (λ l. get_or bs (2 * i) 0 ∷ l) left) ∙ sym (ap (λ k. get_or bs k 0) at)
+    rw (e, drop_more bs (2 * i) 0 (omega arith), left)
+
+-- what the words of a list are, taken one by one
+pub ruleset words_of = (word_sum_chunk, word_sum_even, word_sum_odd)
 
 -- an even number of bytes, and then more
 pub word_sum_append : (m : ℕ) (xs ys : List ℕ) → length xs ≡ 2 * m → word_sum (xs ++ ys) ≡ word_sum xs + word_sum ys

@@ -55,18 +55,18 @@ inner_number (WrongSum place) = 0
 inner_number (WrongByte place) = 0
 inner_number TableTooShort = 0
 
--- `block 1 byte 8: ` and then the words
-abbrev place_words : Place → List ℕ → List ℕ
-place_words place words = codes "block " ++ (decimal place.block ++ (codes " byte " ++ (decimal place.byte ++ (codes ": " ++ words))))
+-- the words for a place, as `block 1 byte 8`
+abbrev pub place_words : Place → List ℕ
+place_words place = codes "block " ++ (decimal place.block ++ (codes " byte " ++ decimal place.byte))
 
--- the words for each
+-- the words for each fault; a place stands before what is wrong there
 abbrev pub record_words : RecordFault → List ℕ
-record_words (NoPlate place inner) = place_words place (codes "no plate: " ++ plate_words inner)
-record_words (NoFixture place inner) = place_words place (codes "no fixture: " ++ thing_words inner)
+record_words (NoPlate place inner) = place_words place ++ (codes ": no plate: " ++ plate_words inner)
+record_words (NoFixture place inner) = place_words place ++ (codes ": no fixture: " ++ thing_words inner)
 
 abbrev pub block_words : BlockFault → List ℕ
 block_words WrongLength = codes "the length is not that of 1 to 80 blocks of 512 bytes"
-block_words (WrongSum place) = place_words place (codes "the words of the block do not sum to a multiple of 65536")
-block_words (WrongByte place) = place_words place (codes "a wrong byte of the head, or an unused byte that is not 0")
+block_words (WrongSum place) = place_words place ++ codes ": the words of the block do not sum to a multiple of 65536"
+block_words (WrongByte place) = place_words place ++ codes ": a wrong byte of the head, or an unused byte that is not 0"
 block_words (InRecord inner) = record_words inner
 block_words TableTooShort = codes "the table has too few rows"

@@ -2,7 +2,7 @@
 ghost use Rattle.std.specs.Prelude.{◌≡◌, Some};
 ghost use Rattle.floors.specs.declared.faults.RecordFault.TheVariants.{NoPlate, NoFixture};
 ghost use Rattle.floors.specs.declared.faults.BlockFault.TheVariants.{InRecord};
-ghost use Rattle.floors.specs.Faults.{record_fault, record_words, block_fault, block_words, fault_place, inner_number};
+ghost use Rattle.floors.specs.Faults.{record_fault, record_words, block_fault, block_words, place_words, fault_place, inner_number};
 ghost use Rattle.std.proofs.Common.{rules};
 
 use claims::ThingFault;
@@ -112,15 +112,15 @@ impl BlockFault {
     {
         match self {
             BlockFault::WrongLength => Some(Place { block: 0, byte: 0 }),
-            BlockFault::WrongSum(place) => Some(*place),
-            BlockFault::WrongByte(place) => Some(*place),
-            BlockFault::InRecord(RecordFault::NoPlate(place, _)) => Some(*place),
-            BlockFault::InRecord(RecordFault::NoFixture(place, _)) => Some(*place),
+            BlockFault::WrongSum(place) | BlockFault::WrongByte(place) => Some(*place),
+            BlockFault::InRecord(
+                RecordFault::NoPlate(place, _) | RecordFault::NoFixture(place, _),
+            ) => Some(*place),
             BlockFault::TableTooShort => None,
         }
     }
 
-    // The number of the plate's or the fixture's fault inside, or 0.
+    // The number of the plate's or the fixture's fault inside, or 0. It is no Option: the format has a number here in each refusal with a place, and 0 where no fault is inside.
     pub fn inner(&self) -> u8
         ensures { result ≡ inner_number self.now }
     {
@@ -132,17 +132,21 @@ impl BlockFault {
     }
 }
 
+impl fmt::Display for Place {
+    ghost output = { λ place. Some (place_words place) };
+
+    fn fmt<W: fmt::Write>(&self, f: &mut fmt::Formatter<W>) -> fmt::Result {
+        write!(f, "block {} byte {}", self.block, self.byte)
+    }
+}
+
 impl fmt::Display for RecordFault {
     ghost output = { λ fault. Some (record_words fault) };
 
     fn fmt<W: fmt::Write>(&self, f: &mut fmt::Formatter<W>) -> fmt::Result {
-        match *self {
-            RecordFault::NoPlate(Place { block, byte }, fault) => {
-                write!(f, "block {block} byte {byte}: no plate: {fault}")
-            }
-            RecordFault::NoFixture(Place { block, byte }, fault) => {
-                write!(f, "block {block} byte {byte}: no fixture: {fault}")
-            }
+        match self {
+            RecordFault::NoPlate(place, fault) => write!(f, "{place}: no plate: {fault}"),
+            RecordFault::NoFixture(place, fault) => write!(f, "{place}: no fixture: {fault}"),
         }
     }
 }
@@ -151,22 +155,18 @@ impl fmt::Display for BlockFault {
     ghost output = { λ fault. Some (block_words fault) };
 
     fn fmt<W: fmt::Write>(&self, f: &mut fmt::Formatter<W>) -> fmt::Result {
-        match *self {
+        match self {
             BlockFault::WrongLength => {
                 f.write_str("the length is not that of 1 to 80 blocks of 512 bytes")
             }
-            BlockFault::WrongSum(Place { block, byte }) => {
-                write!(
-                    f,
-                    "block {block} byte {byte}: the words of the block do not sum to a multiple of 65536"
-                )
-            }
-            BlockFault::WrongByte(Place { block, byte }) => {
-                write!(
-                    f,
-                    "block {block} byte {byte}: a wrong byte of the head, or an unused byte that is not 0"
-                )
-            }
+            BlockFault::WrongSum(place) => write!(
+                f,
+                "{place}: the words of the block do not sum to a multiple of 65536"
+            ),
+            BlockFault::WrongByte(place) => write!(
+                f,
+                "{place}: a wrong byte of the head, or an unused byte that is not 0"
+            ),
             BlockFault::InRecord(fault) => write!(f, "{fault}"),
             BlockFault::TableTooShort => f.write_str("the table has too few rows"),
         }
