@@ -1,6 +1,5 @@
 // The layers of the product, and the trait that every fault type implements.
-ghost use Rattle.std.specs.Prelude.{◌≡◌, Some, None, cond};
-ghost use Rattle.refusals.specs.Answers.{Answers};
+ghost use Rattle.std.specs.Prelude.{◌≡◌, Some};
 ghost use Rattle.refusals.specs.Refusals.{Refusal, layer_of, layer_name};
 
 use std::fmt;
@@ -47,11 +46,4 @@ pub trait Fault {
         ensures { result ≡ (says self.now).number };
 
     ghost numbered: { (fault : Self) → layer_of (says fault).number ≡ Some (says fault).layer };
-}
-
-// One check: nothing where it holds, and else its fault. Checks follow one another by `?`.
-pub fn check<F: Fault + Drop>(holds: bool, fault: F) -> Result<(), F>
-    ensures { Answers F.says (cond holds None (Some (F.says fault))) (λ _. Unit {0}) result }
-{
-    if holds { Ok(()) } else { Err(fault) }
 }
