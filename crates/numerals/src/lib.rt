@@ -5,6 +5,8 @@ ghost use Rattle.std.specs.Prelude.{Some};
 ghost use Rattle.std.specs.Fmt.{signed_decimal};
 
 mod reading;
+#[cfg(test)]
+mod tests;
 
 pub use reading::numbers;
 use std::fmt;
