@@ -4,11 +4,11 @@
 #[cfg(test)]
 mod tests {
     use runout::{
-        Fault, Layer, Plate, PlateFault, PlateField, PlateFields, RunOut, RunOutFault, run_out,
-        worked_sums,
+        Fault, Layer, Plate, PlateFault, PlateField, PlateFields, RunOutFault, run_out, worked_sums,
     };
     use std::test::Fail;
 
+    // A plate's numbers, in the order of the fields.
     const NUMBERS: [i64; 9] = [
         1_200,
         800,
@@ -21,6 +21,7 @@ mod tests {
         400_000_000,
     ];
 
+    // The same by name. It is written out, so that no conversion that is tested here makes it.
     const SAMPLE: PlateFields = PlateFields {
         brake: 1_200,
         pull: 800,
@@ -33,46 +34,26 @@ mod tests {
         half_side: 400_000_000,
     };
 
-    fn made(fields: PlateFields) -> Result<Plate, Fail> {
-        match Plate::new(fields) {
-            Ok(plate) => Ok(plate),
-            Err(_) => Err(Fail::new("no plate")),
-        }
+    // The number of the refusal and the number of the field that it names, where the plate is refused and where it names one.
+    fn refused(fields: PlateFields) -> Option<(u8, Option<usize>)> {
+        let fault = Plate::new(fields).err()?;
+        let field = match fault {
+            PlateFault::OutOfRange(field) => Some(usize::from(field.number())),
+            _ => None,
+        };
+        Some((fault.number(), field))
     }
 
-    // The number of the refusal, and the field that it names or 0; 0 and 0 where a plate is made.
-    fn refused(fields: PlateFields) -> (u8, u8) {
-        match Plate::new(fields) {
-            Ok(_) => (0, 0),
-            Err(fault) => match fault {
-                PlateFault::OutOfRange(field) => (fault.number(), field.number()),
-                _ => (fault.number(), 0),
-            },
-        }
-    }
-
-    fn got(plate: &Plate, speed: i64, acceleration: i64) -> Result<RunOut, Fail> {
-        match run_out(plate, speed, acceleration) {
-            Ok(out) => Ok(out),
-            Err(_) => Err(Fail::new("no run-out")),
-        }
-    }
-
-    fn fault_of(plate: &Plate, speed: i64, acceleration: i64) -> u8 {
-        match run_out(plate, speed, acceleration) {
-            Ok(_) => 0,
-            Err(fault) => fault.number(),
-        }
+    fn fault_of(plate: &Plate, speed: i64, acceleration: i64) -> Option<u8> {
+        let fault = run_out(plate, speed, acceleration).err()?;
+        Some(fault.number())
     }
 
     #[test]
     fn the_table_is_what_run_out_gives(rt: HostRuntime) -> Result<(), Fail> {
         for sum in worked_sums() {
-            let plate = made(sum.fields)?;
-            let out = got(&plate, sum.speed, sum.acceleration)?;
-            assert_eq!(rt; out.travel, sum.out.travel);
-            assert_eq!(rt; out.time, sum.out.time);
-            assert_eq!(rt; out.peak, sum.out.peak);
+            let plate = Plate::new(sum.fields)?;
+            assert_eq!(rt; run_out(&plate, sum.speed, sum.acceleration)?, sum.out);
         }
         Ok(())
     }
@@ -103,7 +84,7 @@ mod tests {
 
     #[test]
     fn the_formulas_are_the_sums_by_the_ms(rt: HostRuntime) -> Result<(), Fail> {
-        let plate = made(SAMPLE)?;
+        let plate = Plate::new(SAMPLE)?;
         // a rest inside the hold, at its end and one ms later; a speed that stays; a speed that rises
         let cases = [
             (0, -1_200),
@@ -119,11 +100,15 @@ mod tests {
             (10_000_000, 800),
         ];
         for (speed, acceleration) in cases {
-            let out = got(&plate, speed, acceleration)?;
-            let (travel, time, peak) = by_the_ms(&plate, speed, acceleration, 11_000);
-            assert!(rt; i64::try_from(out.travel) == Ok(travel));
-            assert_eq!(rt; out.time, time);
-            assert!(rt; i64::try_from(out.peak) == Ok(peak));
+            let out = run_out(&plate, speed, acceleration)?;
+            assert_eq!(rt;
+                (
+                    i64::try_from(out.travel)?,
+                    out.time,
+                    i64::try_from(out.peak)?
+                ),
+                by_the_ms(&plate, speed, acceleration, 11_000)
+            );
         }
         Ok(())
     }
@@ -134,7 +119,7 @@ mod tests {
         if at < 9 {
             numbers[at] = value;
         }
-        PlateFields::in_order(numbers)
+        PlateFields::from(numbers)
     }
 
     #[test]
@@ -150,20 +135,17 @@ mod tests {
             (1, 10_000),
             (0, 5_000_000_000),
         ];
-        let mut at: usize = 0;
-        let mut field: u8 = 0;
-        for (least, greatest) in ranges {
-            field = field.saturating_add(1);
-            assert_eq!(rt; refused(with(at, least - 1)), (11, field));
-            assert_eq!(rt; refused(with(at, greatest + 1)), (11, field));
-            at = at.saturating_add(1);
+        for (at, &(least, greatest)) in ranges.iter().enumerate() {
+            let refusal = Some((11, Some(at + 1)));
+            assert_eq!(rt; refused(with(at, least - 1)), refusal);
+            assert_eq!(rt; refused(with(at, greatest + 1)), refusal);
         }
     }
 
     #[test]
     fn the_ends_of_the_ranges_are_allowed(rt: HostRuntime) -> Result<(), Fail> {
-        let least = PlateFields::in_order([50, 0, 0, 1, 0, 0, 1, 1, 0]);
-        let greatest = PlateFields::in_order([
+        let least = PlateFields::from([50, 0, 0, 1, 0, 0, 1, 1, 0]);
+        let greatest = PlateFields::from([
             20_000,
             10_000,
             19_950,
@@ -174,18 +156,33 @@ mod tests {
             10_000,
             5_000_000_000,
         ]);
-        assert_eq!(rt; refused(least), (0, 0));
-        assert_eq!(rt; refused(greatest), (0, 0));
-        let plate = made(greatest)?;
-        assert_eq!(rt; plate.brake(), 20_000);
-        assert_eq!(rt; plate.pull(), 10_000);
-        assert_eq!(rt; plate.drive_error(), 19_950);
-        assert_eq!(rt; plate.hold(), 500);
-        assert_eq!(rt; plate.speed_error(), 1_000_000);
-        assert_eq!(rt; plate.place_error(), 1_000_000_000);
-        assert_eq!(rt; plate.top_speed(), 5_000_000);
-        assert_eq!(rt; plate.turn_limit(), 10_000);
-        assert_eq!(rt; plate.half_side(), 5_000_000_000);
+        assert_eq!(rt; refused(least), None);
+        assert_eq!(rt; refused(greatest), None);
+        let plate = Plate::new(greatest)?;
+        assert_eq!(rt;
+            [
+                plate.brake(),
+                plate.pull(),
+                plate.drive_error(),
+                plate.hold(),
+                plate.speed_error(),
+                plate.place_error(),
+                plate.top_speed(),
+                plate.turn_limit(),
+                plate.half_side(),
+            ],
+            [
+                20_000,
+                10_000,
+                19_950,
+                500,
+                1_000_000,
+                1_000_000_000,
+                5_000_000,
+                10_000,
+                5_000_000_000,
+            ]
+        );
         Ok(())
     }
 
@@ -200,15 +197,15 @@ mod tests {
             top_speed: 1_000_000,
             ..SAMPLE
         };
-        assert_eq!(rt; refused(with(2, 1_150)), (0, 0));
-        assert_eq!(rt; refused(weak), (12, 0));
-        assert_eq!(rt; refused(unsure), (13, 0));
+        assert_eq!(rt; refused(with(2, 1_150)), None);
+        assert_eq!(rt; refused(weak), Some((12, None)));
+        assert_eq!(rt; refused(unsure), Some((13, None)));
         assert_eq!(rt;
             refused(PlateFields {
                 top_speed: 1_000_001,
                 ..unsure
             }),
-            (0, 0)
+            None
         );
         // the first of several
         assert_eq!(rt;
@@ -216,14 +213,14 @@ mod tests {
                 drive_error: 1_151,
                 ..unsure
             }),
-            (12, 0)
+            Some((12, None))
         );
         assert_eq!(rt;
             refused(PlateFields {
                 half_side: -1,
                 ..weak
             }),
-            (11, 9)
+            Some((11, Some(9)))
         );
         assert_eq!(rt;
             refused(PlateFields {
@@ -231,7 +228,7 @@ mod tests {
                 half_side: -1,
                 ..SAMPLE
             }),
-            (11, 2)
+            Some((11, Some(2)))
         );
         assert_eq!(rt;
             refused(PlateFields {
@@ -239,22 +236,22 @@ mod tests {
                 drive_error: i64::MAX,
                 ..SAMPLE
             }),
-            (11, 1)
+            Some((11, Some(1)))
         );
     }
 
     #[test]
     fn run_out_refuses_speed_first(rt: HostRuntime) -> Result<(), Fail> {
-        let plate = made(SAMPLE)?;
-        assert_eq!(rt; fault_of(&plate, 10_000_000, 800), 0);
-        assert_eq!(rt; fault_of(&plate, 0, -1_200), 0);
-        assert_eq!(rt; fault_of(&plate, 10_000_001, 0), 32);
-        assert_eq!(rt; fault_of(&plate, -1, 0), 32);
-        assert_eq!(rt; fault_of(&plate, i64::MIN, i64::MIN), 32);
-        assert_eq!(rt; fault_of(&plate, 990_000, 801), 33);
-        assert_eq!(rt; fault_of(&plate, 990_000, -1_201), 33);
-        assert_eq!(rt; fault_of(&plate, 0, i64::MIN), 33);
-        assert_eq!(rt; fault_of(&plate, 0, i64::MAX), 33);
+        let plate = Plate::new(SAMPLE)?;
+        assert_eq!(rt; fault_of(&plate, 10_000_000, 800), None);
+        assert_eq!(rt; fault_of(&plate, 0, -1_200), None);
+        assert_eq!(rt; fault_of(&plate, 10_000_001, 0), Some(32));
+        assert_eq!(rt; fault_of(&plate, -1, 0), Some(32));
+        assert_eq!(rt; fault_of(&plate, i64::MIN, i64::MIN), Some(32));
+        assert_eq!(rt; fault_of(&plate, 990_000, 801), Some(33));
+        assert_eq!(rt; fault_of(&plate, 990_000, -1_201), Some(33));
+        assert_eq!(rt; fault_of(&plate, 0, i64::MIN), Some(33));
+        assert_eq!(rt; fault_of(&plate, 0, i64::MAX), Some(33));
         Ok(())
     }
 
@@ -262,8 +259,8 @@ mod tests {
     fn faults_say_their_layer_and_words(rt: HostRuntime) -> Result<(), Fail> {
         let heap = rt.alloc();
         let field = PlateFault::OutOfRange(PlateField::Hold);
-        assert!(rt; matches!(field.layer(), Layer::Plate));
-        assert!(rt; matches!(RunOutFault::Speed.layer(), Layer::Gate));
+        assert_eq!(rt; field.layer(), Layer::Plate);
+        assert_eq!(rt; RunOutFault::Speed.layer(), Layer::Gate);
         let hold = field.to_string(heap)?;
         assert_eq!(rt; hold.as_str(), "field 4, hold, is not from 1 to 500");
         let acceleration = RunOutFault::Acceleration.to_string(heap)?;
