@@ -1,14 +1,10 @@
 -- The text that is written for a speed and an acceleration. Assumes nothing.
 use Rattle.std.specs.Prelude.{ℕ, List, ◌++◌, ℤ, Ok, Err, codes, decimal, Result}
 use Rattle.std.specs.Fmt.{signed_decimal}
-use Rattle.refusals.specs.Refusals.{Refusal, layer_name}
+use Rattle.refusals.specs.Refusals.{refusal_text}
 use Rattle.runout.specs.declared.faults.RunOutFault.{RunOutFault}
 use Rattle.runout.specs.declared.run_outs.RunOut.{RunOut}
 use Rattle.runout.specs.Faults.{run_out_fault, run_out_words}
-
--- `refused 33 (gate): ` and the words
-abbrev pub refusal_text : Refusal → List ℕ → List ℕ
-refusal_text refusal words = codes "refused " ++ (decimal refusal.number ++ (codes " (" ++ (layer_name refusal.layer ++ (codes "): " ++ words))))
 
 -- `travel`, `time` and `peak` with their numbers, or the refusal
 abbrev pub outcome_text : Result RunOut RunOutFault → List ℕ

@@ -1,28 +1,13 @@
 // What is written of a run-out or a refusal.
 ghost use Rattle.std.specs.Prelude.{◌≡◌, Some};
-ghost use Rattle.std.specs.Option.{option_map};
 ghost use Rattle.refusals.specs.Answers.{Answers};
 ghost use Rattle.runout.specs.Faults.{run_out_fault};
 ghost use Rattle.runout.specs.RunOuts.{run_out_refused, run_out};
-ghost use Rattle.stopping.specs.Texts.{refusal_text, answer_text};
+ghost use Rattle.stopping.specs.Texts.{answer_text};
 
-use runout::{Fault, Plate, RunOut, RunOutFault, run_out};
+use refusals::Refused;
+use runout::{Plate, RunOut, RunOutFault, run_out};
 use std::fmt;
-
-// A fault, as a refusal is written: its number, its layer and its words.
-#[derive(Clone, Copy)]
-pub struct Refused<F>(pub F);
-
-impl<F: Fault + fmt::Display> fmt::Display for Refused<F> {
-    ghost output = { λ refused. option_map (refusal_text (F.Fault.says refused.0)) (F.Display.output refused.0) };
-
-    fn fmt<W: fmt::Write>(&self, f: &mut fmt::Formatter<W>) -> fmt::Result {
-        let number = self.0.number();
-        let layer = self.0.layer();
-        let words = &self.0;
-        write!(f, "refused {number} ({layer}): {words}")
-    }
-}
 
 // What came of a speed and an acceleration.
 #[derive(Drop)]
@@ -55,10 +40,9 @@ pub fn ask(plate: &Plate, speed: i64, acceleration: i64) -> Answer
     ensures asked { (result.speed ≡ speed) × (result.acceleration ≡ acceleration) }
     ensures outcome { Answers run_out_fault (run_out_refused plate.now speed acceleration) (λ out. out ≡ run_out plate.now speed acceleration) result.outcome }
 {
-    let outcome = run_out(plate, speed, acceleration);
     Answer {
         speed,
         acceleration,
-        outcome,
+        outcome: run_out(plate, speed, acceleration),
     }
 }

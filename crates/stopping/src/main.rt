@@ -3,8 +3,10 @@
 
 mod answers;
 
-use answers::{Refused, ask};
+use answers::ask;
 use anyhow::anyhow;
+use numerals::numbers;
+use refusals::Refused;
 use runout::{Plate, PlateFields};
 use std::io::{BufRead, BufReader, ErrorKind};
 use std::{env, io};
@@ -12,19 +14,6 @@ use std::{env, io};
 const USAGE: &str = "usage: stopping < INPUT
 The first line of INPUT is a plate, nine whole numbers: brake, pull, drive error, hold, speed error, place error, top speed, turn limit, half side.
 Each later line is a measured speed and an acceleration, two whole numbers. Numbers stand apart by blanks.";
-
-// The whole numbers of a line that has just so many, apart by blanks.
-fn numbers<const N: usize>(text: &str) -> Option<[i64; N]> {
-    let mut values = [0; N];
-    let mut words = text.split_whitespace();
-    for value in values.iter_mut() {
-        *value = words.next()?.parse::<i64>().ok()?;
-    }
-    match words.next() {
-        None => Some(values),
-        Some(_) => None,
-    }
-}
 
 // The text of a line. One that is not UTF-8 reads as empty: neither has numbers.
 fn text_of(rt: &HostRuntime, line: io::Result<String>) -> io::Result<String> {
@@ -49,7 +38,7 @@ fn plate_of(rt: &HostRuntime, text: &str) -> anyhow::Result<Plate> {
         println!(rt; "line 1: not the nine numbers of a plate")?;
         return Err(anyhow!("the first line is no plate"));
     };
-    match Plate::new(PlateFields::in_order(fields)) {
+    match Plate::new(PlateFields::from(fields)) {
         Ok(plate) => Ok(plate),
         Err(fault) => {
             rt.println(Refused(fault))?;
@@ -72,9 +61,7 @@ fn run(rt: &HostRuntime) -> anyhow::Result<()> {
         return misused(rt);
     };
     let plate = plate_of(rt, text_of(rt, first)?.as_str())?;
-    let mut number: usize = 1;
-    for line in lines {
-        number = number.saturating_add(1);
+    for (line, number) in lines.zip(2..) {
         reply(rt, &plate, number, text_of(rt, line)?.as_str())?;
     }
     Ok(())
