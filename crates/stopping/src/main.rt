@@ -38,13 +38,10 @@ fn plate_of(rt: &HostRuntime, text: &str) -> anyhow::Result<Plate> {
         println!(rt; "line 1: not the nine numbers of a plate")?;
         return Err(anyhow!("the first line is no plate"));
     };
-    match Plate::new(PlateFields::from(fields)) {
-        Ok(plate) => Ok(plate),
-        Err(fault) => {
-            rt.println(Refused(fault))?;
-            Err(anyhow!("the plate is refused"))
-        }
-    }
+    Plate::new(PlateFields::from(fields)).or_else(|fault| {
+        rt.println(Refused(fault))?;
+        Err(anyhow!("the plate is refused"))
+    })
 }
 
 fn misused(rt: &HostRuntime) -> anyhow::Result<()> {
