@@ -1,5 +1,5 @@
 -- Two spans share a number exactly when the larger low end is at most the smaller high end; and sums that stop at the ends of 64 bits. Assumes nothing.
-use Rattle.std.proofs.Common.{◌≡◌, ℕ, ◌+◌, ◌-◌, ◌^◌, true, ℤ, pos, negsuc, ◌-ℤ◌, neg_ℤ, ◌≤ℤ◌, ap, ◌∙◌, arith}
+use Rattle.std.proofs.Common.{◌≡◌, ℕ, ◌-◌, ◌^◌, true, ℤ, pos, negsuc, ◌+ℤ◌, ◌-ℤ◌, neg_ℤ, ◌≤ℤ◌, ◌∙◌, arith}
 use lib.Signed.{le_z}
 use Rattle.std.specs.Int.{int_max, int_min, saturate_to_bits}
 use Rattle.std.proofs.lemmas.Int.{ints, clamps}
@@ -22,28 +22,25 @@ module _ (s t : Span) where
   pub meeting : (z : ℤ) → In s z → In t z → meet s t ≡ true
   meeting z i j = le_z_from (int_max s.low t.low) (int_min s.high t.high) (omega (arith, ints, clamps))
 
--- below the greatest number of 64 bits, a difference stops at the least alone
+-- Below the greatest number of 64 bits, a difference stops at the least alone; above the least, a sum stops at the greatest alone.
 down : (x : ℤ) → x ≤ℤ pos (2 ^ 63 - 1) → saturate_to_bits 63 x ≡ int_max x (neg_ℤ (pos (2 ^ 63)))
 down (pos n) h = omega (arith, ints, clamps)
 down (negsuc n) h = omega (arith, ints, clamps)
 
-maxes : (x y : ℤ) (b : ℕ) → y ≡ int_max x (neg_ℤ (pos (2 ^ 63))) → (y -ℤ pos b) ≤ℤ pos (2 ^ 63 - 1) → int_max (y -ℤ pos b) (neg_ℤ (pos (2 ^ 63))) ≡ int_max (x -ℤ pos b) (neg_ℤ (pos (2 ^ 63)))
-maxes x y b e h = omega (arith, ints, clamps)
+up : (x : ℤ) → neg_ℤ (pos (2 ^ 63)) ≤ℤ x → saturate_to_bits 63 x ≡ int_min x (pos (2 ^ 63 - 1))
+up (pos n) h = omega (arith, ints, clamps)
+up (negsuc n) h = omega (arith, ints, clamps)
 
--- a difference that stops, and two that are one
-pub lowered_once : (z x : ℤ) (n : ℕ) → z ≤ℤ pos (2 ^ 63 - 1) → x ≡ saturate_to_bits 63 (z -ℤ pos n) → x ≡ int_max (z -ℤ pos n) (neg_ℤ (pos (2 ^ 63)))
-lowered_once z x n most first = first ∙ down (z -ℤ pos n) (omega (arith, ints))
+least_stopped : (z o y x : ℤ) → neg_ℤ (pos (2 ^ 63)) ≤ℤ o → y ≡ int_max z (neg_ℤ (pos (2 ^ 63))) → x ≡ int_max y o → x ≡ int_max z o
+least_stopped z o y x least first second = omega (arith, ints, clamps)
 
-pub lowered_twice : (z y x : ℤ) (a b n : ℕ) → a + b ≡ n → z ≤ℤ pos (2 ^ 63 - 1) → y ≡ saturate_to_bits 63 (z -ℤ pos a) → x ≡ saturate_to_bits 63 (y -ℤ pos b) → x ≡ int_max (z -ℤ pos n) (neg_ℤ (pos (2 ^ 63)))
-lowered_twice z y x a b n sum most first second =
-    let y_is : y ≡ int_max (z -ℤ pos a) (neg_ℤ (pos (2 ^ 63))) = first ∙ down (z -ℤ pos a) (omega (arith, ints)) in
-    let small : y ≤ℤ pos (2 ^ 63 - 1) = omega (arith, ints, clamps) in
-    let whole : ((z -ℤ pos a) -ℤ pos b) ≡ (z -ℤ pos n) = omega (arith, ints) in
-    second ∙ down (y -ℤ pos b) (omega (arith, ints)) ∙ maxes (z -ℤ pos a) y b y_is (omega (arith, ints)) ∙ ap (λ k. int_max k (neg_ℤ (pos (2 ^ 63)))) whole
+most_stopped : (z o y x : ℤ) → o ≤ℤ pos (2 ^ 63 - 1) → y ≡ int_min z (pos (2 ^ 63 - 1)) → x ≡ int_min y o → x ≡ int_min z o
+most_stopped z o y x most first second = omega (arith, ints, clamps)
 
--- an end that stopped at the least or the greatest number meets a number of 64 bits as it would have without
-pub low_stopped : (z o y x : ℤ) → neg_ℤ (pos (2 ^ 63)) ≤ℤ o → y ≡ int_max z (neg_ℤ (pos (2 ^ 63))) → x ≡ int_max y o → x ≡ int_max z o
-low_stopped z o y x least first second = omega (arith, ints, clamps)
+-- A moved end that stopped at the least or the greatest number meets a number of 64 bits as it would have without.
+module _ (z o y x : ℤ) (n : ℕ) where
+  pub low_stopped : z ≤ℤ pos (2 ^ 63 - 1) → neg_ℤ (pos (2 ^ 63)) ≤ℤ o → y ≡ saturate_to_bits 63 (z -ℤ pos n) → x ≡ int_max y o → x ≡ int_max (z -ℤ pos n) o
+  low_stopped most least first second = least_stopped (z -ℤ pos n) o y x least (first ∙ down (z -ℤ pos n) (omega (arith, ints))) second
 
-pub high_stopped : (z o y x : ℤ) → o ≤ℤ pos (2 ^ 63 - 1) → y ≡ int_min z (pos (2 ^ 63 - 1)) → x ≡ int_min y o → x ≡ int_min z o
-high_stopped z o y x most first second = omega (arith, ints, clamps)
+  pub high_stopped : neg_ℤ (pos (2 ^ 63)) ≤ℤ z → o ≤ℤ pos (2 ^ 63 - 1) → y ≡ saturate_to_bits 63 (z +ℤ pos n) → x ≡ int_min y o → x ≡ int_min (z +ℤ pos n) o
+  high_stopped least most first second = most_stopped (z +ℤ pos n) o y x most (first ∙ up (z +ℤ pos n) (omega (arith, ints))) second

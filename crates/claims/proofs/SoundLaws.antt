@@ -13,7 +13,7 @@ use Rattle.claims.specs.declared.fixtures.Fixture.{Fixture}
 use Rattle.claims.specs.declared.movers.Mover.{Mover}
 use Rattle.claims.specs.Horizons.{everywhere, before, past, strips}
 use Rattle.claims.specs.Limits.{Bounded, NoFaster, Sound}
-use Rattle.claims.specs.Things.{near, ordered, zero_fixture, zero_mover, fixture_checks, fixture_refused, fixture_claim, mover_checks, mover_refused, half_box, around, mover_claim}
+use Rattle.claims.specs.Things.{near, ordered, zero_fixture, zero_mover, fixture_checks, fixture_refused, fixture_claim, mover_checks, mover_refused, MoverRanged, half_box, around, mover_claim}
 
 none : (o : Option Refusal) → is_some o ≡ false → o ≡ None
 none None e = refl
@@ -70,6 +70,23 @@ mover_stands m e =
     let age = leb-true m.age 1000 p.1.1.1.1.1.0 in
     let half : half_box m ≤ 40000000000 = omega (arith, mul-le m.speed m.age 20000000 1000 speed age) in
     record { x = around_bounded m.x (half_box m) p.0 (omega arith); y = around_bounded m.y (half_box m) p.1.0 (omega arith); speed = speed }
+
+-- the numbers of a mover that is not refused are in their ranges
+pub mover_ranged : (m : Mover) → mover_refused m ≡ None → MoverRanged m
+mover_ranged m e =
+    let p = all_hold (mover_checks m) e in
+    let x = near_both m.x p.0 in
+    let y = near_both m.y p.1.0 in
+    record {
+      x_least = x.0;
+      x_most = x.1;
+      y_least = y.0;
+      y_most = y.1;
+      half_side = leb-true m.half_side 10000000000 p.1.1.0;
+      error = leb-true m.error 10000000000 p.1.1.1.0;
+      speed = leb-true m.speed 20000000 p.1.1.1.1.0;
+      age = leb-true m.age 1000 p.1.1.1.1.1.0;
+    }
 
 pub mover_sound : (m : Mover) → Sound (mover_claim m)
 unfolding moved

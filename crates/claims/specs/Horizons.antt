@@ -5,17 +5,19 @@ use Rattle.refusals.specs.Answers.{first_of}
 use Rattle.claims.specs.declared.boxes.Span.{Span}
 use Rattle.claims.specs.declared.boxes.Claim.{Claim}
 use Rattle.claims.specs.declared.faults.ThingFault.TheVariants.{OutOfRange, LowAboveHigh}
+use Rattle.claims.specs.declared.fields.ThingField.TheVariants.{OfSeen}
+use Rattle.claims.specs.declared.fields.SeenField.TheVariants.{LowX, HighX, LowY, HighY, Speed}
 use Rattle.claims.specs.Faults.{thing_fault}
 use Rattle.claims.specs.Things.{near, ordered}
 
 -- The checks of what is seen, in their order. Its fields are low x, high x, low y, high y and the speed of unseen things.
 abbrev pub seen_checks : Span → Span → ℕ → List (Bool × Refusal)
 seen_checks x y speed =
-    (near x.low, thing_fault (OutOfRange 1)) ∷
-    (near x.high, thing_fault (OutOfRange 2)) ∷
-    (near y.low, thing_fault (OutOfRange 3)) ∷
-    (near y.high, thing_fault (OutOfRange 4)) ∷
-    (nat_le speed 20000000, thing_fault (OutOfRange 5)) ∷
+    (near x.low, thing_fault (OutOfRange (OfSeen LowX))) ∷
+    (near x.high, thing_fault (OutOfRange (OfSeen HighX))) ∷
+    (near y.low, thing_fault (OutOfRange (OfSeen LowY))) ∷
+    (near y.high, thing_fault (OutOfRange (OfSeen HighY))) ∷
+    (nat_le speed 20000000, thing_fault (OutOfRange (OfSeen Speed))) ∷
     (ordered x && ordered y, thing_fault LowAboveHigh) ∷ []
 
 abbrev pub seen_refused : Span → Span → ℕ → Option Refusal

@@ -5,6 +5,9 @@ use Rattle.refusals.specs.Answers.{first_of}
 use Rattle.claims.specs.declared.boxes.Span.{Span}
 use Rattle.claims.specs.declared.boxes.Claim.{Claim}
 use Rattle.claims.specs.declared.faults.ThingFault.TheVariants.{OutOfRange, LowAboveHigh}
+use Rattle.claims.specs.declared.fields.ThingField.TheVariants.{OfFixture, OfMover}
+use Rattle.claims.specs.declared.fields.FixtureField.TheVariants.{LowX, HighX, LowY, HighY}
+use Rattle.claims.specs.declared.fields.MoverField.TheVariants.{X, Y, HalfSide, Error, Speed, Age}
 use Rattle.claims.specs.declared.fixtures.Fixture.{Fixture}
 use Rattle.claims.specs.declared.movers.Mover.{Mover}
 use Rattle.claims.specs.Faults.{thing_fault}
@@ -30,10 +33,10 @@ zero_mover = record { label = 0; x = pos 0; y = pos 0; half_side = 0; error = 0;
 -- The checks of a fixture, in their order. Its fields are label, low x, high x, low y, high y; every label is allowed.
 abbrev pub fixture_checks : Fixture → List (Bool × Refusal)
 fixture_checks f =
-    (near f.x.low, thing_fault (OutOfRange 2)) ∷
-    (near f.x.high, thing_fault (OutOfRange 3)) ∷
-    (near f.y.low, thing_fault (OutOfRange 4)) ∷
-    (near f.y.high, thing_fault (OutOfRange 5)) ∷
+    (near f.x.low, thing_fault (OutOfRange (OfFixture LowX))) ∷
+    (near f.x.high, thing_fault (OutOfRange (OfFixture HighX))) ∷
+    (near f.y.low, thing_fault (OutOfRange (OfFixture LowY))) ∷
+    (near f.y.high, thing_fault (OutOfRange (OfFixture HighY))) ∷
     (ordered f.x && ordered f.y, thing_fault LowAboveHigh) ∷ []
 
 abbrev pub fixture_refused : Fixture → Option Refusal
@@ -50,12 +53,12 @@ fixture_claim f = let t = fixture_counted f in record { label = t.label; x = t.x
 -- The checks of a mover, in their order. Its fields are label, centre x, centre y, half side, error, speed, age; every label is allowed.
 abbrev pub mover_checks : Mover → List (Bool × Refusal)
 mover_checks m =
-    (near m.x, thing_fault (OutOfRange 2)) ∷
-    (near m.y, thing_fault (OutOfRange 3)) ∷
-    (nat_le m.half_side 10000000000, thing_fault (OutOfRange 4)) ∷
-    (nat_le m.error 10000000000, thing_fault (OutOfRange 5)) ∷
-    (nat_le m.speed 20000000, thing_fault (OutOfRange 6)) ∷
-    (nat_le m.age 1000, thing_fault (OutOfRange 7)) ∷ []
+    (near m.x, thing_fault (OutOfRange (OfMover X))) ∷
+    (near m.y, thing_fault (OutOfRange (OfMover Y))) ∷
+    (nat_le m.half_side 10000000000, thing_fault (OutOfRange (OfMover HalfSide))) ∷
+    (nat_le m.error 10000000000, thing_fault (OutOfRange (OfMover Error))) ∷
+    (nat_le m.speed 20000000, thing_fault (OutOfRange (OfMover Speed))) ∷
+    (nat_le m.age 1000, thing_fault (OutOfRange (OfMover Age))) ∷ []
 
 abbrev pub mover_refused : Mover → Option Refusal
 mover_refused m = first_of (mover_checks m)

@@ -1,12 +1,13 @@
 // Fixtures: things that stay where they are.
 ghost use Rattle.std.specs.Prelude.{◌≡◌, ◌&&◌};
-ghost use Rattle.std.specs.Option.{option_map};
-ghost use Rattle.refusals.specs.Answers.{Answers};
-ghost use Rattle.claims.specs.Faults.{thing_fault};
-ghost use Rattle.claims.specs.Things.{near, ordered, fixture_refused, fixture_counted, fixture_claim};
+ghost use Rattle.std.proofs.Common.{rules, refl};
+ghost use Rattle.claims.specs.Things.{near, ordered, zero_fixture, fixture_refused, fixture_claim};
 
 use crate::boxes::{Claim, Span};
 use crate::faults::ThingFault;
+use crate::fields::FixtureField;
+use crate::rows::Row;
+use refusals::check;
 
 // The farthest that a thing may stand from 0 on an axis.
 const FAR: i64 = 2_000_000_000_000;
@@ -15,7 +16,7 @@ const FAR: i64 = 2_000_000_000_000;
 pub(crate) fn near(z: i64) -> bool
     ensures { result ≡ near z }
 {
-    -FAR <= z && z <= FAR
+    (-FAR..=FAR).contains(&z)
 }
 
 // Whether low is at most high, of both spans of a box.
@@ -26,63 +27,38 @@ pub(crate) fn ordered(x: &Span, y: &Span) -> bool
 }
 
 // A fixture: a row of a table, whatever its fields hold.
-#[derive(Clone, Copy, Debug, PartialEq, Eq)]
+#[derive(Clone, Copy, Debug, Default, PartialEq, Eq)]
 pub struct Fixture {
     pub label: u32,
     pub x: Span,
     pub y: Span,
 }
 
-impl Fixture {
-    // Why the row is no fixture.
-    pub fn fault(&self) -> Option<ThingFault>
-        ensures { option_map thing_fault result ≡ fixture_refused self.now }
-    {
-        if !near(self.x.low) {
-            Some(ThingFault::OutOfRange(2))
-        } else if !near(self.x.high) {
-            Some(ThingFault::OutOfRange(3))
-        } else if !near(self.y.low) {
-            Some(ThingFault::OutOfRange(4))
-        } else if !near(self.y.high) {
-            Some(ThingFault::OutOfRange(5))
-        } else if !ordered(&self.x, &self.y) {
-            Some(ThingFault::LowAboveHigh)
-        } else {
-            None
-        }
-    }
+impl Row for Fixture {
+    ghost refused = { fixture_refused };
 
-    // The row as a fixture, or why it is none.
-    pub fn checked(self) -> Result<Fixture, ThingFault>
-        ensures { Answers thing_fault (fixture_refused self) (λ made. made ≡ self) result }
-    {
-        match self.fault() {
-            Some(fault) => Err(fault),
-            None => Ok(self),
-        }
-    }
+    ghost zero = { zero_fixture };
 
-    // The fixture that the row counts as: itself, or where it is none, the one whose every field is 0.
-    pub fn counted(&self) -> Fixture
-        ensures { result ≡ fixture_counted self.now }
-    {
-        if self.fault().is_none() {
-            return *self;
-        }
-        let zero = Span { low: 0, high: 0 };
-        Fixture {
-            label: 0,
-            x: zero,
-            y: zero,
-        }
-    }
+    ghost zero_is_default = { Prim.search rules };
 
-    // What the row claims: its box, at speed 0.
-    pub fn as_claim(&self) -> Claim
-        ensures { result ≡ fixture_claim self.now }
-    {
-        let Fixture { label, x, y } = self.counted();
+    ghost zero_allowed = { refl };
+
+    fn checked(self) -> Result<Fixture, ThingFault> {
+        check(near(self.x.low), FixtureField::LowX)?;
+        check(near(self.x.high), FixtureField::HighX)?;
+        check(near(self.y.low), FixtureField::LowY)?;
+        check(near(self.y.high), FixtureField::HighY)?;
+        check(ordered(&self.x, &self.y), ThingFault::LowAboveHigh)?;
+        Ok(self)
+    }
+}
+
+// What a row claims: its box, at speed 0.
+impl From<Fixture> for Claim {
+    ghost from_gives = { λ fixture claim. claim ≡ fixture_claim fixture };
+
+    fn from(fixture: Fixture) -> Claim {
+        let Fixture { label, x, y } = fixture.counted();
         Claim {
             label,
             x,

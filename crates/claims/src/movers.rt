@@ -1,16 +1,17 @@
 // Movers: things that were seen some time ago and may move.
-ghost use Rattle.std.specs.Prelude.{◌≡◌, ◌≤◌, pos, neg_ℤ, ◌≤ℤ◌, None};
-ghost use Rattle.std.specs.Option.{option_map};
-ghost use Rattle.refusals.specs.Answers.{Answers};
-ghost use Rattle.claims.specs.Faults.{thing_fault};
-ghost use Rattle.claims.specs.Things.{mover_refused, mover_counted, MoverRanged, half_box, around, mover_claim};
+ghost use Rattle.std.specs.Prelude.{◌≡◌, ◌≤◌, pos, neg_ℤ, ◌≤ℤ◌};
+ghost use Rattle.std.proofs.Common.{rules, refl};
+ghost use Rattle.claims.specs.Things.{zero_mover, mover_refused, MoverRanged, half_box, around, mover_claim};
 
 use crate::boxes::{Claim, Span};
 use crate::faults::ThingFault;
+use crate::fields::MoverField;
 use crate::fixtures::near;
+use crate::rows::Row;
+use refusals::check;
 
 // A mover: a row of a table, whatever its fields hold.
-#[derive(Clone, Copy, Debug, PartialEq, Eq)]
+#[derive(Clone, Copy, Debug, Default, PartialEq, Eq)]
 pub struct Mover {
     pub label: u32,
     // the centre as it was seen
@@ -24,62 +25,32 @@ pub struct Mover {
     pub age: u32,
 }
 
-impl Mover {
-    // Why the row is no mover.
-    pub fn fault(&self) -> Option<ThingFault>
-        ensures { option_map thing_fault result ≡ mover_refused self.now }
-    {
-        if !near(self.x) {
-            Some(ThingFault::OutOfRange(2))
-        } else if !near(self.y) {
-            Some(ThingFault::OutOfRange(3))
-        } else if self.half_side > 10_000_000_000 {
-            Some(ThingFault::OutOfRange(4))
-        } else if self.error > 10_000_000_000 {
-            Some(ThingFault::OutOfRange(5))
-        } else if self.speed > 20_000_000 {
-            Some(ThingFault::OutOfRange(6))
-        } else if self.age > 1_000 {
-            Some(ThingFault::OutOfRange(7))
-        } else {
-            None
-        }
-    }
+impl Row for Mover {
+    ghost refused = { mover_refused };
 
-    // The row as a mover, or why it is none.
-    pub fn checked(self) -> Result<Mover, ThingFault>
-        ensures { Answers thing_fault (mover_refused self) (λ made. made ≡ self) result }
-    {
-        match self.fault() {
-            Some(fault) => Err(fault),
-            None => Ok(self),
-        }
-    }
+    ghost zero = { zero_mover };
 
-    // The mover that the row counts as: itself, or where it is none, the one whose every field is 0.
-    pub fn counted(&self) -> Mover
-        ensures value { result ≡ mover_counted self.now }
-        ensures allowed { mover_refused result ≡ None }
-    {
-        if self.fault().is_none() {
-            return *self;
-        }
-        Mover {
-            label: 0,
-            x: 0,
-            y: 0,
-            half_side: 0,
-            error: 0,
-            speed: 0,
-            age: 0,
-        }
-    }
+    ghost zero_is_default = { Prim.search rules };
 
-    // What the row claims: its centre by half side, error and what it may have moved since, at its speed.
-    pub fn as_claim(&self) -> Claim
-        ensures { result ≡ mover_claim self.now }
-    {
-        let mover = ranged(self.counted());
+    ghost zero_allowed = { refl };
+
+    fn checked(self) -> Result<Mover, ThingFault> {
+        check(near(self.x), MoverField::X)?;
+        check(near(self.y), MoverField::Y)?;
+        check(self.half_side <= 10_000_000_000, MoverField::HalfSide)?;
+        check(self.error <= 10_000_000_000, MoverField::Error)?;
+        check(self.speed <= 20_000_000, MoverField::Speed)?;
+        check(self.age <= 1_000, MoverField::Age)?;
+        Ok(self)
+    }
+}
+
+// What a row claims: its centre by half side, error and what it may have moved since, at its speed.
+impl From<Mover> for Claim {
+    ghost from_gives = { λ mover claim. claim ≡ mover_claim mover };
+
+    fn from(mover: Mover) -> Claim {
+        let mover = mover.counted();
         let half = half_box(&mover);
         Claim {
             label: mover.label,
@@ -88,15 +59,6 @@ impl Mover {
             speed: mover.speed,
         }
     }
-}
-
-// A mover that is not refused is in its ranges.
-fn ranged(mover: Mover) -> Mover
-    requires { mover_refused mover ≡ None }
-    ensures same { result ≡ mover }
-    ensures ranged { MoverRanged result }
-{
-    mover
 }
 
 // How far the box of a mover reaches from its centre.

@@ -1,6 +1,5 @@
 // What is seen, from its five numbers, and the four strips around it.
 ghost use Rattle.std.specs.Prelude.{◌≡◌, true};
-ghost use Rattle.std.specs.Option.{option_map};
 ghost use Rattle.refusals.specs.Answers.{Answers};
 ghost use Rattle.claims.specs.Faults.{thing_fault};
 ghost use Rattle.claims.specs.Things.{near};
@@ -8,8 +7,10 @@ ghost use Rattle.claims.specs.Horizons.{seen_refused, before, past, strip, strip
 
 use crate::boxes::{Claim, Span};
 use crate::faults::ThingFault;
+use crate::fields::SeenField;
 use crate::fixtures::{near, ordered};
 use crate::horizons::Seen;
+use refusals::check;
 
 // The farthest that an edge of a claim may lie from 0.
 const END: i64 = 4_000_000_000_000;
@@ -18,27 +19,6 @@ const EVERYWHERE: Span = Span {
     low: -END,
     high: END,
 };
-
-// Why a rectangle and a speed are refused.
-fn fault(x: &Span, y: &Span, speed: u32) -> Option<ThingFault>
-    ensures { option_map thing_fault result ≡ seen_refused x.now y.now speed }
-{
-    if !near(x.low) {
-        Some(ThingFault::OutOfRange(1))
-    } else if !near(x.high) {
-        Some(ThingFault::OutOfRange(2))
-    } else if !near(y.low) {
-        Some(ThingFault::OutOfRange(3))
-    } else if !near(y.high) {
-        Some(ThingFault::OutOfRange(4))
-    } else if speed > 20_000_000 {
-        Some(ThingFault::OutOfRange(5))
-    } else if !ordered(x, y) {
-        Some(ThingFault::LowAboveHigh)
-    } else {
-        None
-    }
-}
 
 // All that lies before a span.
 fn before(span: &Span) -> Span
@@ -79,10 +59,13 @@ impl Seen {
     pub fn new(x: Span, y: Span, speed: u32) -> Result<Seen, ThingFault>
         ensures { Answers thing_fault (seen_refused x y speed) (λ seen. (seen.x ≡ x) × (seen.y ≡ y) × (seen.speed ≡ speed)) result }
     {
-        match fault(&x, &y, speed) {
-            Some(fault) => Err(fault),
-            None => Ok(Seen { x, y, speed }),
-        }
+        check(near(x.low), SeenField::LowX)?;
+        check(near(x.high), SeenField::HighX)?;
+        check(near(y.low), SeenField::LowY)?;
+        check(near(y.high), SeenField::HighY)?;
+        check(speed <= 20_000_000, SeenField::Speed)?;
+        check(ordered(&x, &y), ThingFault::LowAboveHigh)?;
+        Ok(Seen { x, y, speed })
     }
 
     // What may be outside: left, right, under and over.

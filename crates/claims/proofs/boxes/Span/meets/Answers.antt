@@ -1,4 +1,4 @@
-use Rattle.std.proofs.Common.{pos, ◌+ℤ◌, ◌-ℤ◌, arith, w64, SFits, rules}
+use Rattle.std.proofs.Common.{arith, w64, SFits, rules}
 use lib.Signed.{le_z}
 use Rattle.std.proofs.lemmas.Int.{ints, to_z-of_z}
 use Rattle.claims.proofs.Edges.{low_stopped, high_stopped}
@@ -12,14 +12,14 @@ returns c =
     let f2 : SFits w64 self.high = search rules in
     let f3 : SFits w64 other.low = search rules in
     let f4 : SFits w64 other.high = search rules in
-    let f5 : SFits w64 c.lowered.result = search rules in
-    let f6 : SFits w64 c.raised.result = search rules in
-    let f7 : SFits w64 c.max.result = search rules in
-    let f8 : SFits w64 c.min.result = search rules in
+    let f5 : SFits w64 c.saturating_sub_unsigned.result = search rules in
+    let f6 : SFits w64 c.saturating_add_unsigned.result = search rules in
+    let f7 : SFits w64 c.max-low.result = search rules in
+    let f8 : SFits w64 c.min-high.result = search rules in
     let low =
-    low_stopped (self.low -ℤ pos c.args.by) other.low c.lowered.result c.max.result (omega (arith, ints))
-    (simp to_z-of_z at c.lowered.ensures) (simp to_z-of_z at c.max.ensures.value) in
+    low_stopped self.low other.low c.saturating_sub_unsigned.result c.max-low.result c.args.by (omega (arith, ints)) (omega (arith, ints))
+    (simp to_z-of_z at c.saturating_sub_unsigned.ensures) (simp to_z-of_z at c.max-low.ensures.value) in
     let high =
-    high_stopped (self.high +ℤ pos c.args.by) other.high c.raised.result c.min.result (omega (arith, ints))
-    (simp to_z-of_z at c.raised.ensures) (simp to_z-of_z at c.min.ensures.value) in
+    high_stopped self.high other.high c.saturating_add_unsigned.result c.min-high.result c.args.by (omega (arith, ints)) (omega (arith, ints))
+    (simp to_z-of_z at c.saturating_add_unsigned.ensures) (simp to_z-of_z at c.min-high.ensures.value) in
     simp to_z-of_z (λ i. le_z (low i) (high i))
