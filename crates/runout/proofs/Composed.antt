@@ -5,9 +5,9 @@ use Rattle.std.proofs.lemmas.Bool.{cases_lt}
 use Rattle.plates.specs.declared.plates.Plate.{Plate}
 use Rattle.runout.specs.declared.run_outs.RunOut.{RunOut}
 use Rattle.runout.specs.Speeds.{changed, RunOutOf}
-use Rattle.runout.specs.RunOuts.{braking, speeds, speeds_first, speeds_held, speeds_braked, run_out}
+use Rattle.runout.specs.RunOuts.{braking, speeds, speeds_first, speeds_held, speeds_braked, run_out, HoldThenBrake}
 use Rattle.runout.proofs.Courses.{course, course_first, course_held, course_braked}
-use Rattle.runout.proofs.RunOutLaws.{run_out_only}
+use Rattle.runout.proofs.RunOutLaws.{run_out_only, run_out_braked}
 
 module _ (p : Plate) (m a : ℤ) where
   abbrev g : ℤ
@@ -24,8 +24,10 @@ module _ (p : Plate) (m a : ℤ) where
       (λ (past : p.hold ≤ i). course_braked p.hold g (braking p) v i past ∙ ap (λ x. x - braking p) (same_speed i) ∙ sym (speeds_braked p m a i past))
       (cases_lt i p.hold)
 
-  pub run_out_named : (hold : ℕ) (g' : ℤ) (b v' : ℕ) (out : RunOut) → hold ≡ p.hold → g' ≡ g → b ≡ braking p → v' ≡ v → RunOutOf (course hold g' b v') out → (out ≡ run_out p m a) × RunOutOf (speeds p m a) out
+  -- What is the run-out of the course is the plate's, of its speeds, and that of the hold and then the brake.
+  pub run_out_named : (hold : ℕ) (g' : ℤ) (b v' : ℕ) (out : RunOut) → hold ≡ p.hold → g' ≡ g → b ≡ braking p → v' ≡ v → RunOutOf (course hold g' b v') out → (out ≡ run_out p m a) × RunOutOf (speeds p m a) out × HoldThenBrake p m a out
   run_out_named hold g' b v' out hs gs bs vs r =
       let named : course hold g' b v' ≡ course p.hold g (braking p) v = cc in
       let is = subst (λ e. RunOutOf e out) (named ∙ fun_ext same_speed) r in
-      (run_out_only p m a out is, is)
+      let value = run_out_only p m a out is in
+      (value, is, subst (HoldThenBrake p m a) (sym value) (run_out_braked p m a))

@@ -1,5 +1,5 @@
 -- The run-out: the worst journey that a proposal allows a cart with a plate. Assumes nothing.
-use Rattle.std.specs.Prelude.{◌≡◌, ℕ, zero, suc, ◌+◌, ◌-◌, ◌<◌, ◌≤◌, Bool, cond, ◌&&◌, [], ◌∷◌, ℤ, pos, ◌+ℤ◌, neg_ℤ, Option, int_le, nat_lt, unsigned_abs}
+use Rattle.std.specs.Prelude.{◌≡◌, ℕ, zero, suc, ◌+◌, ◌-◌, ◌<◌, ◌≤◌, Bool, cond, ◌&&◌, [], ◌∷◌, ℤ, pos, ◌+ℤ◌, neg_ℤ, ◌≤ℤ◌, Option, int_le, nat_lt, unsigned_abs}
 use Rattle.std.proofs.Math.Path.{refl}
 use Rattle.refusals.specs.Refusals.{Refusal}
 use Rattle.refusals.specs.Answers.{first_of}
@@ -23,6 +23,10 @@ limits_refused brake pull m a = first_of (
 -- the same for a plate
 abbrev pub run_out_refused : Plate → ℤ → ℤ → Option Refusal
 run_out_refused p = limits_refused p.brake p.pull
+
+-- a speed and an acceleration that are not refused
+abbrev pub Within : Plate → ℤ → ℤ → Type 0
+Within p m a = (pos 0 ≤ℤ m) × (m ≤ℤ pos 10000000) × (neg_ℤ (pos p.brake) ≤ℤ a) × (a ≤ℤ pos p.pull)
 
 -- the real braking: what the brake does at the worst error of the drive
 abbrev pub braking : Plate → ℕ

@@ -1,10 +1,10 @@
 // The run-out: how far, how long and how fast a cart may go, through a hold at one acceleration and then under the brake to rest.
-ghost use Rattle.std.specs.Prelude.{◌≡◌, ◌+◌, ◌*◌, ◌/◌, ◌^◌, ◌<◌, ◌≤◌, pos, neg_ℤ, ◌≤ℤ◌, IfOk};
+ghost use Rattle.std.specs.Prelude.{◌≡◌, ◌+◌, ◌*◌, ◌/◌, ◌^◌, ◌<◌, ◌≤◌, IfOk};
 ghost use Rattle.refusals.specs.Answers.{Answers};
 ghost use Rattle.runout.specs.Speeds.{RunOutOf, Small};
 ghost use Rattle.runout.specs.Formulas.{evenly_spaced, stop_formula, rise_formula, fall_formula};
 ghost use Rattle.runout.specs.Faults.{run_out_fault};
-ghost use Rattle.runout.specs.RunOuts.{run_out_refused, speeds, run_out, HoldThenBrake};
+ghost use Rattle.runout.specs.RunOuts.{run_out_refused, Within, speeds, run_out, HoldThenBrake};
 
 use crate::faults::RunOutFault;
 use crate::run_outs::RunOut;
@@ -108,8 +108,7 @@ impl Journey {
 
 // The run-out from a speed and at an acceleration that are within their limits.
 fn worst(plate: &Plate, speed: i64, acceleration: i64) -> RunOut
-    requires speed { (pos 0 ≤ℤ speed) × (speed ≤ℤ pos 10000000) }
-    requires acceleration { (neg_ℤ (pos plate.now.brake) ≤ℤ acceleration) × (acceleration ≤ℤ pos plate.now.pull) }
+    requires { Within plate.now speed acceleration }
     ensures value { result ≡ run_out plate.now speed acceleration }
     ensures journey { RunOutOf (speeds plate.now speed acceleration) result }
     ensures braked { HoldThenBrake plate.now speed acceleration result }
@@ -130,6 +129,20 @@ fn worst(plate: &Plate, speed: i64, acceleration: i64) -> RunOut
     }
 }
 
+// The checks of a speed and an acceleration, in their order.
+fn checked(plate: &Plate, speed: i64, acceleration: i64) -> Result<(), RunOutFault>
+    ensures { Answers run_out_fault (run_out_refused plate.now speed acceleration) (λ _. Within plate.now speed acceleration) result }
+{
+    // Tried with `contains` of a range: the search then leaves what the second check answers, with and without `?`.
+    check(0 <= speed && speed <= FASTEST, RunOutFault::Speed)?;
+    let brake = plate.brake() as i64;
+    let pull = plate.pull() as i64;
+    check(
+        -brake <= acceleration && acceleration <= pull,
+        RunOutFault::Acceleration,
+    )
+}
+
 // The worst journey of a cart that is measured at a speed and held at an acceleration: the hold at the worst errors, then the brake at its weakest.
 pub fn run_out(plate: &Plate, speed: i64, acceleration: i64) -> Result<RunOut, RunOutFault>
     ensures answer { Answers run_out_fault (run_out_refused plate.now speed acceleration) (λ out. out ≡ run_out plate.now speed acceleration) result }
@@ -137,12 +150,6 @@ pub fn run_out(plate: &Plate, speed: i64, acceleration: i64) -> Result<RunOut, R
     ensures braked { IfOk result (HoldThenBrake plate.now speed acceleration) }
     ensures small { IfOk result Small }
 {
-    check(0 <= speed && speed <= FASTEST, RunOutFault::Speed)?;
-    let brake = plate.brake() as i64;
-    let pull = plate.pull() as i64;
-    check(
-        -brake <= acceleration && acceleration <= pull,
-        RunOutFault::Acceleration,
-    )?;
+    checked(plate, speed, acceleration)?;
     Ok(worst(plate, speed, acceleration))
 }
