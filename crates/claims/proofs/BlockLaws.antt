@@ -3,17 +3,12 @@ use Rattle.std.proofs.Common.{◌≡◌, ℕ, ◌*◌, ◌≤◌, Bool, true, �
 use Rattle.std.specs.Int.{int_max, int_min}
 use Rattle.std.proofs.lemmas.Nat.{mul-le}
 use Rattle.std.proofs.lemmas.Int.{ints, clamps}
+use Rattle.std.proofs.lemmas.Bool.{and_parts, and_from}
 use Rattle.claims.specs.declared.boxes.Claim.{Claim}
 use Rattle.claims.specs.declared.boxes.Reach.{Reach}
 use Rattle.claims.specs.Blocking.{grown, meet, Covers, Blocks, blocks, blocks_edges, covers_box, box_covers}
 use Rattle.claims.specs.Limits.{Sound}
 use Rattle.claims.proofs.Edges.{shared, meeting}
-
-both : (a b : Bool) → (a && b) ≡ true → (a ≡ true) × (b ≡ true)
-both a b e = (grind arith, grind arith)
-
-and_true : (a b : Bool) → a ≡ true → b ≡ true → (a && b) ≡ true
-and_true a b p q = grind arith
 
 -- The value decides whether there is a common point.
 pub blocks_decides : (c : Claim) (r : Reach) → Decides (blocks c r) (Blocks c r)
@@ -21,7 +16,7 @@ blocks_decides c r = (there, here)
   where
     there : blocks c r ≡ true → Blocks c r
     there e =
-        let parts = both _ _ (sym (blocks_edges c r) ∙ e) in
+        let parts = and_parts _ _ (sym (blocks_edges c r) ∙ e) in
         let on_x = shared (grown c.x (c.speed * r.time)) r.x parts.0 in
         let on_y = shared (grown c.y (c.speed * r.time)) r.y parts.1 in
         record { x = on_x.0; y = on_y.0; covered = box_covers c r.time on_x.0 on_y.0 (on_x.1, on_y.1); within_x = on_x.2; within_y = on_y.2 }
@@ -30,7 +25,7 @@ blocks_decides c r = (there, here)
     here b =
         let at = covers_box c r.time b.x b.y b.covered in
         blocks_edges c r ∙
-        and_true _ _ (meeting (grown c.x (c.speed * r.time)) r.x b.x at.0 b.within_x) (meeting (grown c.y (c.speed * r.time)) r.y b.y at.1 b.within_y)
+        and_from _ _ (meeting (grown c.x (c.speed * r.time)) r.x b.x at.0 b.within_x) (meeting (grown c.y (c.speed * r.time)) r.y b.y at.1 b.within_y)
 
 -- What was compared on both axes, with ends moved outwards by speed × time, is the value, and decides.
 pub both_decide : (c : Claim) (r : Reach) (by : ℕ) (on_x on_y : Bool) → by ≡ c.speed * r.time → on_x ≡ meet (grown c.x by) r.x → on_y ≡ meet (grown c.y by) r.y → ((on_x && on_y) ≡ blocks c r) × Decides (on_x && on_y) (Blocks c r)

@@ -57,20 +57,6 @@ around_bounded z n b h =
     let i = near_both z b in
     record { least = omega (arith, ints); ordered = omega (arith, ints); most = omega (arith, ints) }
 
-moved : Mover → Claim
-moved t = record { label = t.label; x = around t.x (half_box t); y = around t.y (half_box t); speed = t.speed }
-
-mover_stands : (m : Mover) → mover_refused m ≡ None → Sound (moved m)
-unfolding moved
-mover_stands m e =
-    let p = all_hold (mover_checks m) e in
-    let side = leb-true m.half_side 10000000000 p.1.1.0 in
-    let error = leb-true m.error 10000000000 p.1.1.1.0 in
-    let speed = leb-true m.speed 20000000 p.1.1.1.1.0 in
-    let age = leb-true m.age 1000 p.1.1.1.1.1.0 in
-    let half : half_box m ≤ 40000000000 = omega (arith, mul-le m.speed m.age 20000000 1000 speed age) in
-    record { x = around_bounded m.x (half_box m) p.0 (omega arith); y = around_bounded m.y (half_box m) p.1.0 (omega arith); speed = speed }
-
 -- the numbers of a mover that is not refused are in their ranges
 pub mover_ranged : (m : Mover) → mover_refused m ≡ None → MoverRanged m
 mover_ranged m e =
@@ -87,6 +73,17 @@ mover_ranged m e =
       speed = leb-true m.speed 20000000 p.1.1.1.1.0;
       age = leb-true m.age 1000 p.1.1.1.1.1.0;
     }
+
+moved : Mover → Claim
+moved t = record { label = t.label; x = around t.x (half_box t); y = around t.y (half_box t); speed = t.speed }
+
+mover_stands : (m : Mover) → mover_refused m ≡ None → Sound (moved m)
+unfolding moved
+mover_stands m e =
+    let p = all_hold (mover_checks m) e in
+    let r = mover_ranged m e in
+    let half : half_box m ≤ 40000000000 = omega (arith, mul-le m.speed m.age 20000000 1000 r.speed r.age, r.half_side, r.error) in
+    record { x = around_bounded m.x (half_box m) p.0 (omega arith); y = around_bounded m.y (half_box m) p.1.0 (omega arith); speed = r.speed }
 
 pub mover_sound : (m : Mover) → Sound (mover_claim m)
 unfolding moved
