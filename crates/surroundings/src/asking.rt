@@ -9,13 +9,15 @@ use claims::{Claim, Reach};
 
 // What surrounds a cart. It means a list of claims, each within its limits; an implementation shows this, and that the question is answered from that list.
 pub trait Surroundings {
+    // the list
     ghost claims: { Self → List Claim };
-
-    ghost sound: { (around : Self) → AllByRecursion Sound (claims around) };
 
     // The first claim of the list that blocks the reach, or none if no claim blocks.
     fn first_blocking(&self, reach: &Reach) -> Option<Claim>
         ensures { result ≡ first_blocking (claims self.now) reach.now };
+
+    // Each claim of the list is within its limits.
+    ghost sound: { (around : Self) → AllByRecursion Sound (claims around) };
 }
 
 // Surroundings that are lent mean the same list.

@@ -18,13 +18,15 @@ pub trait Kind {
     // what a thing claims
     ghost claim: { Self → Claim };
 
-    ghost sound: { (thing : Self) → Sound (claim thing) };
-
-    ghost slow: { (thing : Self) → NoFaster GREATEST_SPEED (claim thing) };
-
     // What the thing claims.
     fn claim(&self) -> Claim
         ensures { result ≡ claim self.now };
+
+    // The claim is within its limits.
+    ghost sound: { (thing : Self) → Sound (claim thing) };
+
+    // The claim is no faster than the greatest speed of the kind.
+    ghost slow: { (thing : Self) → NoFaster GREATEST_SPEED (claim thing) };
 }
 
 impl Kind for Fixture {
@@ -39,7 +41,7 @@ impl Kind for Fixture {
     ghost slow = { fixture_slow };
 
     fn claim(&self) -> Claim {
-        Fixture::as_claim(self)
+        <Claim as From<Fixture>>::from(*self)
     }
 }
 
@@ -55,6 +57,6 @@ impl Kind for Mover {
     ghost slow = { mover_slow };
 
     fn claim(&self) -> Claim {
-        Mover::as_claim(self)
+        <Claim as From<Mover>>::from(*self)
     }
 }

@@ -8,7 +8,10 @@ mod pairs;
 mod rosters;
 
 pub use asking::{Surroundings, ask};
-pub use claims::{Claim, Fault, Fixture, Layer, Mover, Reach, Seen, Span, ThingFault};
+pub use claims::{
+    Claim, Fault, Fixture, FixtureField, Layer, Mover, MoverField, Reach, Row, Seen, SeenField,
+    Span, ThingFault, ThingField,
+};
 pub use horizons::Horizon;
 pub use kinds::Kind;
 pub use pairs::Pair;

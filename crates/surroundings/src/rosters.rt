@@ -8,6 +8,7 @@ ghost use Rattle.surroundings.specs.Rosters.{roster_refused};
 use crate::asking::Surroundings;
 use crate::kinds::Kind;
 use claims::{Claim, Reach, ThingFault};
+use refusals::check;
 use std::alloc::AllocError;
 
 // The most things that a roster may stand over.
@@ -37,9 +38,7 @@ impl<'a, T: Kind> Roster<'a, T> {
     pub fn new(rows: &'a [T]) -> Result<Roster<'a, T>, ThingFault>
         ensures { Answers thing_fault (roster_refused (length rows.now)) (λ roster. roster.rows.now ≡ rows.now) result }
     {
-        if rows.len() > MOST {
-            return Err(ThingFault::TooMany);
-        }
+        check(rows.len() <= MOST, ThingFault::TooMany)?;
         Ok(Roster { rows })
     }
 }
