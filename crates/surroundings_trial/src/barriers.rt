@@ -27,10 +27,8 @@ impl Surroundings for Barrier {
 
     ghost sound = { λ barrier. barrier_sound barrier.closed };
 
+    #[tactic(auto, unfolding(surroundings::specs::Asking::first_blocking))]
     fn first_blocking(&self, reach: &Reach) -> Option<Claim> {
-        if !self.closed {
-            return None;
-        }
-        if BAR.blocks(reach) { Some(BAR) } else { None }
+        (self.closed && BAR.blocks(reach)).then_some(BAR)
     }
 }

@@ -2,7 +2,7 @@
 use super::*;
 use std::test::Fail;
 use surroundings::{
-    Claim, Fault, Fixture, Kind, Mover, Pair, Reach, Roster, Seen, Span, Surroundings, ThingFault,
+    Claim, Fault, Fixture, Kind, Mover, Pair, Reach, Roster, Row, Seen, Span, Surroundings, ThingFault,
     ask,
 };
 
@@ -43,21 +43,17 @@ fn mover(age: u32) -> Mover {
     }
 }
 
-fn label(o: Option<Claim>) -> u32 {
-    match o {
-        Some(claim) => claim.label,
-        None => 1,
-    }
+// The number of a refusal, and the field that it names, if it names one.
+fn said(fault: ThingFault) -> (u8, Option<u8>) {
+    let field = match fault {
+        ThingFault::OutOfRange(field) => Some(field.number()),
+        _ => None,
+    };
+    (fault.number(), field)
 }
 
-fn number(o: Option<ThingFault>) -> (u8, u8) {
-    match o {
-        None => (0, 0),
-        Some(fault) => match fault {
-            ThingFault::OutOfRange(field) => (fault.number(), field),
-            _ => (fault.number(), 0),
-        },
-    }
+fn label(claim: Claim) -> u32 {
+    claim.label
 }
 
 #[test]
@@ -88,8 +84,8 @@ fn blocking_is_total(rt: HostRuntime) {
         far.blocks(&Reach {
             x: all,
             y: all,
-            time: 0,
-        },)
+            time: 0
+        })
     );
     // speed × time is 2^64 - 2^33 + 1, which falls short of 2^64 - 1 by 2^33 - 2
     let least = i64::MAX - 8_589_934_590;
@@ -98,14 +94,14 @@ fn blocking_is_total(rt: HostRuntime) {
             x: span(least, least),
             y: span(least, least),
             time: u32::MAX,
-        },)
+        })
     );
     assert!(rt;
         !far.blocks(&Reach {
             x: span(least + 1, least + 1),
             y: point,
             time: u32::MAX,
-        },)
+        })
     );
     // a reach with low above high has no point
     assert!(rt;
@@ -113,7 +109,7 @@ fn blocking_is_total(rt: HostRuntime) {
             x: span(1, 0),
             y: all,
             time: u32::MAX,
-        },)
+        })
     );
 }
 
@@ -125,62 +121,66 @@ fn fixtures_are_refused_by_their_first_fault(rt: HostRuntime) {
         x: span(-end, end),
         y: span(end, end),
     };
-    assert_eq!(rt; number(good.fault()), (0, 0));
-    assert_eq!(rt;
-        number(Fixture {
-            x: span(-end - 1, end + 1),
-            ..good
-        }
-        .fault()),
-        (21, 2)
-    );
-    assert_eq!(rt;
-        number(Fixture {
-            x: span(0, end + 1),
-            ..good
-        }
-        .fault()),
-        (21, 3)
-    );
-    assert_eq!(rt;
-        number(Fixture {
-            y: span(-end - 1, end),
-            ..good
-        }
-        .fault()),
-        (21, 4)
-    );
-    assert_eq!(rt;
-        number(Fixture {
-            y: span(0, i64::MAX),
-            ..good
-        }
-        .fault()),
-        (21, 5)
-    );
-    assert_eq!(rt;
-        number(Fixture {
-            x: span(1, 0),
-            ..good
-        }
-        .fault()),
-        (22, 0)
-    );
-    assert_eq!(rt;
-        number(Fixture {
-            y: span(1, 0),
-            ..good
-        }
-        .fault()),
-        (22, 0)
-    );
+    assert_eq!(rt; good.fault(), None);
+    for (bad, refusal) in [
+        (
+            Fixture {
+                x: span(-end - 1, end + 1),
+                ..good
+            },
+            (21, Some(2)),
+        ),
+        (
+            Fixture {
+                x: span(0, end + 1),
+                ..good
+            },
+            (21, Some(3)),
+        ),
+        (
+            Fixture {
+                y: span(-end - 1, end),
+                ..good
+            },
+            (21, Some(4)),
+        ),
+        (
+            Fixture {
+                y: span(0, i64::MAX),
+                ..good
+            },
+            (21, Some(5)),
+        ),
+        (
+            Fixture {
+                x: span(1, 0),
+                ..good
+            },
+            (22, None),
+        ),
+        (
+            Fixture {
+                y: span(1, 0),
+                ..good
+            },
+            (22, None),
+        ),
+    ] {
+        assert_eq!(rt; bad.fault().map(said), Some(refusal));
+    }
     // what is refused counts as the fixture at 0
     let counted = Fixture {
         x: span(5, 4),
         ..good
     }
     .claim();
-    assert_eq!(rt; (counted.label, counted.x.low, counted.y.high), (0, 0, 0));
+    let zero = Claim {
+        label: 0,
+        x: span(0, 0),
+        y: span(0, 0),
+        speed: 0,
+    };
+    assert_eq!(rt; counted, zero);
 }
 
 #[test]
@@ -195,51 +195,44 @@ fn movers_are_refused_by_their_first_fault(rt: HostRuntime) {
         speed: 20_000_000,
         age: 1_000,
     };
-    assert_eq!(rt; number(good.fault()), (0, 0));
-    assert_eq!(rt;
-        number(Mover {
-            x: -end - 1,
-            age: 1_001,
-            ..good
-        }
-        .fault()),
-        (21, 2)
-    );
-    assert_eq!(rt; number(Mover { y: end + 1, ..good }.fault()), (21, 3));
-    assert_eq!(rt;
-        number(Mover {
-            half_side: 10_000_000_001,
-            ..good
-        }
-        .fault()),
-        (21, 4)
-    );
-    assert_eq!(rt;
-        number(Mover {
-            error: u64::MAX,
-            ..good
-        }
-        .fault()),
-        (21, 5)
-    );
-    assert_eq!(rt;
-        number(Mover {
-            speed: 20_000_001,
-            ..good
-        }
-        .fault()),
-        (21, 6)
-    );
-    assert_eq!(rt; number(Mover { age: 1_001, ..good }.fault()), (21, 7));
+    assert_eq!(rt; good.fault(), None);
+    for (bad, refusal) in [
+        (
+            Mover {
+                x: -end - 1,
+                age: 1_001,
+                ..good
+            },
+            (21, Some(2)),
+        ),
+        (Mover { y: end + 1, ..good }, (21, Some(3))),
+        (
+            Mover {
+                half_side: 10_000_000_001,
+                ..good
+            },
+            (21, Some(4)),
+        ),
+        (
+            Mover {
+                error: u64::MAX,
+                ..good
+            },
+            (21, Some(5)),
+        ),
+        (
+            Mover {
+                speed: 20_000_001,
+                ..good
+            },
+            (21, Some(6)),
+        ),
+        (Mover { age: 1_001, ..good }, (21, Some(7))),
+    ] {
+        assert_eq!(rt; bad.fault().map(said), Some(refusal));
+    }
     assert_eq!(rt; good.claim().x.low, -end - 40_000_000_000);
     assert_eq!(rt; Mover { age: 1_001, ..good }.claim().speed, 0);
-}
-
-fn roster<T: Kind>(rows: &[T]) -> Result<Roster<'_, T>, Fail> {
-    match Roster::new(rows) {
-        Ok(roster) => Ok(roster),
-        Err(_) => Err(Fail::new("no roster")),
-    }
 }
 
 #[test]
@@ -254,56 +247,42 @@ fn a_roster_names_the_first_row_that_blocks(rt: HostRuntime) -> Result<(), Fail>
         ..fixture(0)
     };
     let rows = [clear, near, nearer];
-    assert_eq!(rt; label(ask(&roster(&rows)?, &REACH)), 8);
-    assert_eq!(rt; label(ask(&roster(&rows[0..1])?, &REACH)), 1);
-    assert_eq!(rt; label(ask(&roster(&rows[0..0])?, &REACH)), 1);
+    assert_eq!(rt; ask(&Roster::new(&rows)?, &REACH).map(label), Some(8));
+    assert_eq!(rt; ask(&Roster::new(&rows[0..1])?, &REACH).map(label), None);
+    assert_eq!(rt; ask(&Roster::new(&rows[0..0])?, &REACH).map(label), None);
     // a refused row counts as a point at 0, with label 0
-    assert_eq!(rt; label(ask(&roster(&[fixture(i64::MIN)])?, &REACH)), 0);
-    assert_eq!(rt; label(ask(&roster(&[mover(158), mover(159)])?, &REACH)), 9);
+    assert_eq!(rt;
+        ask(&Roster::new(&[fixture(i64::MIN)])?, &REACH).map(label),
+        Some(0)
+    );
+    assert_eq!(rt;
+        ask(&Roster::new(&[mover(158), mover(159)])?, &REACH).map(label),
+        Some(9)
+    );
     Ok(())
 }
 
 #[test]
-fn a_roster_has_1024_rows_at_most(rt: HostRuntime) -> Result<(), Fail> {
+fn a_roster_has_1024_rows_at_most(rt: HostRuntime) {
     let rows = [fixture(0); 1_025];
     assert!(rt; Roster::new(&rows[0..1_024]).is_ok());
-    match Roster::new(&rows) {
-        Ok(_) => Err(Fail::new("1,025 rows")),
-        Err(fault) => {
-            assert_eq!(rt; fault.number(), 23);
-            Ok(())
-        },
-    }
+    assert_eq!(rt; Roster::new(&rows).err().map(said), Some((23, None)));
 }
 
 #[test]
 fn a_pair_asks_its_first_part_first(rt: HostRuntime) -> Result<(), Fail> {
     let walls = [fixture(1_020_500_000)];
     let people = [mover(159)];
-    let first = roster(&walls)?;
-    let second = roster(&people)?;
-    assert_eq!(rt; label(ask(&Pair { first, second }, &REACH)), 7);
-    assert_eq!(rt;
-        label(ask(
-            &Pair {
-                first: &second,
-                second: &first,
-            },
-            &REACH,
-        )),
-        9
-    );
-    let none = roster(&walls[0..0])?;
-    assert_eq!(rt;
-        label(ask(
-            &Pair {
-                first: none,
-                second,
-            },
-            &REACH,
-        )),
-        9
-    );
+    let first = Roster::new(&walls)?;
+    let second = Roster::new(&people)?;
+    assert_eq!(rt; ask(&Pair { first, second }, &REACH).map(label), Some(7));
+    let turned = Pair {
+        first: &second,
+        second: &first,
+    };
+    assert_eq!(rt; ask(&turned, &REACH).map(label), Some(9));
+    let first = Roster::new(&walls[0..0])?;
+    assert_eq!(rt; ask(&Pair { first, second }, &REACH).map(label), Some(9));
     Ok(())
 }
 
@@ -313,62 +292,61 @@ fn a_horizon_claims_what_is_not_seen(rt: HostRuntime) -> Result<(), Fail> {
     // the reach's edges are 1,020,500,000 from 0, and unseen things come 1,100 ms × 1,000 nm per ms
     let at = 1_020_500_000 + 1_100_000;
     for (low_x, high_x, low_y, high_y, found) in [
-        (-at, at, -at, at, 1),
-        (-at + 1, at, -at, at, u32::MAX),
-        (-at, at - 1, -at, at, u32::MAX),
-        (-at, at, -at + 1, at, u32::MAX),
-        (-at, at, -at, at - 1, u32::MAX),
+        (-at, at, -at, at, None),
+        (-at + 1, at, -at, at, Some(u32::MAX)),
+        (-at, at - 1, -at, at, Some(u32::MAX)),
+        (-at, at, -at + 1, at, Some(u32::MAX)),
+        (-at, at, -at, at - 1, Some(u32::MAX)),
     ] {
-        match Seen::new(span(low_x, high_x), span(low_y, high_y), 1_000) {
-            Ok(seen) => assert!(rt; label(first_of(seen)?) == found),
-            Err(_) => return Err(Fail::new("refused")),
-        }
+        let seen = Seen::new(span(low_x, high_x), span(low_y, high_y), 1_000)?;
+        let first = first_around(seen, &[fixture(1_020_500_001)], &[mover(158)], &REACH)?;
+        assert_eq!(rt; first.map(label), found);
     }
     assert!(rt; Seen::new(span(-end, end), span(-end, end), 20_000_000).is_ok());
     Ok(())
-}
-
-fn first_of(seen: Seen) -> Result<Option<Claim>, Fail> {
-    match first_around(seen, &[fixture(1_020_500_001)], &[mover(158)], &REACH) {
-        Ok(found) => Ok(found),
-        Err(_) => Err(Fail::new("too many")),
-    }
-}
-
-fn seen_number(x: Span, y: Span, speed: u32) -> (u8, u8) {
-    match Seen::new(x, y, speed) {
-        Ok(_) => (0, 0),
-        Err(fault) => number(Some(fault)),
-    }
 }
 
 #[test]
 fn a_horizon_is_refused_by_its_first_fault(rt: HostRuntime) {
     let end = 2_000_000_000_000;
     let all = span(-end, end);
-    assert_eq!(rt; seen_number(span(-end - 1, end), all, 20_000_001), (21, 1));
-    assert_eq!(rt; seen_number(span(-end, end + 1), all, 0), (21, 2));
-    assert_eq!(rt; seen_number(all, span(-end - 1, end), 0), (21, 3));
-    assert_eq!(rt; seen_number(all, span(-end, end + 1), 0), (21, 4));
-    assert_eq!(rt; seen_number(span(1, 0), all, 20_000_001), (21, 5));
-    assert_eq!(rt; seen_number(span(1, 0), all, 20_000_000), (22, 0));
-    assert_eq!(rt; seen_number(all, span(1, 0), 0), (22, 0));
+    for (x, y, speed, refusal) in [
+        (span(-end - 1, end), all, 20_000_001, (21, Some(1))),
+        (span(-end, end + 1), all, 0, (21, Some(2))),
+        (all, span(-end - 1, end), 0, (21, Some(3))),
+        (all, span(-end, end + 1), 0, (21, Some(4))),
+        (span(1, 0), all, 20_000_001, (21, Some(5))),
+        (span(1, 0), all, 20_000_000, (22, None)),
+        (all, span(1, 0), 0, (22, None)),
+    ] {
+        assert_eq!(rt; Seen::new(x, y, speed).err().map(said), Some(refusal));
+    }
 }
 
 #[test]
 fn kinds_and_surroundings_of_ones_own(rt: HostRuntime) -> Result<(), Fail> {
-    let Some(charger) = Charger::new(5, 1_320_500_000, 0) else {
-        return Err(Fail::new("no charger"));
-    };
-    assert_eq!(rt; label(ask(&roster(&[charger])?, &REACH)), 5);
+    let charger = Charger::new(5, 1_320_500_000, 0).ok_or("no charger")?;
+    assert_eq!(rt; ask(&Roster::new(&[charger])?, &REACH).map(label), Some(5));
     assert!(rt; Charger::new(5, 2_000_000_000_001, 0).is_none());
     let gateway = Reach {
         x: span(0, 5_000_000_000),
         y: span(0, 0),
         time: 9,
     };
-    assert_eq!(rt; label(ask(&Barrier { closed: true }, &gateway)), 77);
-    assert_eq!(rt; label(ask(&Barrier { closed: false }, &gateway)), 1);
-    assert_eq!(rt; label(ask(&Barrier { closed: true }, &REACH)), 1);
+    assert_eq!(rt;
+        ask(&Barrier { closed: true }, &gateway).map(label),
+        Some(77)
+    );
+    assert_eq!(rt; ask(&Barrier { closed: false }, &gateway), None);
+    assert_eq!(rt; ask(&Barrier { closed: true }, &REACH), None);
+    Ok(())
+}
+
+#[test]
+fn a_kind_may_be_faster_than_its_thing(rt: HostRuntime) -> Result<(), Fail> {
+    let charger = Charger::new(5, 0, 0).ok_or("no charger")?;
+    assert_eq!(rt; spare_speed(&charger), 0);
+    assert_eq!(rt; spare_speed(&fixture(0)), 0);
+    assert_eq!(rt; spare_speed(&mover(159)), 19_500_000);
     Ok(())
 }

@@ -6,10 +6,18 @@ ghost use Rattle.surroundings_trial.specs.Chargers.{charger_claim, charger_sound
 use crate::chargers::Charger;
 use surroundings::{Claim, Kind, Span};
 
+// The farthest that a charging point may stand from 0 on an axis.
 const FAR: i64 = 2_000_000_000_000;
 
 // Half the side of a charging point.
 const HALF: i64 = 300_000_000;
+
+// Whether a coordinate of a charging point is within ±FAR.
+fn near(z: i64) -> bool
+    ensures { result ≡ near z }
+{
+    (-FAR..=FAR).contains(&z)
+}
 
 // What a charging point covers on an axis.
 fn around(z: i64) -> Span
@@ -27,7 +35,7 @@ impl Charger {
     pub fn new(label: u32, x: i64, y: i64) -> Option<Charger>
         ensures { MatchOption result ((near x && near y) ≡ false) (λ c. (c.label ≡ label) × (c.x ≡ x) × (c.y ≡ y)) }
     {
-        if -FAR <= x && x <= FAR && -FAR <= y && y <= FAR {
+        if near(x) && near(y) {
             Some(Charger { label, x, y })
         } else {
             None
