@@ -1,12 +1,12 @@
 -- What the crates above know of blocking. Assumes nothing.
-use Rattle.std.proofs.Common.{◌≡◌, ℕ, ◌*◌, ◌≤◌, Bool, true, ◌&&◌, ℤ, pos, ◌+ℤ◌, ◌-ℤ◌, ◌≤ℤ◌, Decides, sym, refl, ◌∙◌, subst, le_refl, arith}
+use Rattle.std.proofs.Common.{◌≡◌, ℕ, ◌*◌, ◌≤◌, Bool, true, ℤ, pos, ◌+ℤ◌, ◌-ℤ◌, ◌≤ℤ◌, Decides, sym, ◌∙◌, subst, le_refl, arith}
 use Rattle.std.specs.Int.{int_max, int_min}
 use Rattle.std.proofs.lemmas.Nat.{mul-le}
 use Rattle.std.proofs.lemmas.Int.{ints, clamps}
 use Rattle.std.proofs.lemmas.Bool.{and_parts, and_from}
 use Rattle.claims.specs.declared.boxes.Claim.{Claim}
 use Rattle.claims.specs.declared.boxes.Reach.{Reach}
-use Rattle.claims.specs.Blocking.{grown, meet, Covers, Blocks, blocks, blocks_edges, covers_box, box_covers}
+use Rattle.claims.specs.Blocking.{grown, edges_meet, Covers, Blocks, blocks, blocks_edges, covers_box, box_covers}
 use Rattle.claims.specs.Limits.{Sound}
 use Rattle.claims.proofs.Edges.{shared, meeting}
 
@@ -27,11 +27,11 @@ blocks_decides c r = (there, here)
         blocks_edges c r ∙
         and_from _ _ (meeting (grown c.x (c.speed * r.time)) r.x b.x at.0 b.within_x) (meeting (grown c.y (c.speed * r.time)) r.y b.y at.1 b.within_y)
 
--- What was compared on both axes, with ends moved outwards by speed × time, is the value, and decides.
-pub both_decide : (c : Claim) (r : Reach) (by : ℕ) (on_x on_y : Bool) → by ≡ c.speed * r.time → on_x ≡ meet (grown c.x by) r.x → on_y ≡ meet (grown c.y by) r.y → ((on_x && on_y) ≡ blocks c r) × Decides (on_x && on_y) (Blocks c r)
-both_decide c r by on_x on_y b x y =
-    let value : (on_x && on_y) ≡ blocks c r = (rw (x, y, b) refl) ∙ sym (blocks_edges c r) in
-    (value, subst (λ v. Decides v (Blocks c r)) (sym value) (blocks_decides c r))
+-- A comparison of the edges is the value, and decides.
+pub edges_decide : (c : Claim) (r : Reach) (met : Bool) → met ≡ edges_meet c r → (met ≡ blocks c r) × Decides met (Blocks c r)
+edges_decide c r met e =
+    let value : met ≡ blocks c r = e ∙ sym (blocks_edges c r) in
+    (value, subst (λ b. Decides b (Blocks c r)) (sym value) (blocks_decides c r))
 
 -- Where a thing may be, it may be later too.
 pub covers_later : (c : Claim) (t u : ℕ) (x y : ℤ) → t ≤ u → Covers c t x y → Covers c u x y

@@ -1,6 +1,6 @@
 // Claims and reaches, and when the one blocks the other. Lengths are in nm, times in ms, speeds in nm per ms.
 ghost use Rattle.std.specs.Prelude.{◌≡◌, ◌*◌, Decides};
-ghost use Rattle.claims.specs.Blocking.{Blocks, grown, meet, blocks};
+ghost use Rattle.claims.specs.Blocking.{Blocks, grown, meet, edges_meet, blocks};
 
 // The whole numbers from low to high; none where low is above high.
 #[derive(Clone, Copy, Debug, Default, PartialEq, Eq)]
@@ -45,12 +45,19 @@ impl Claim {
         self.speed as u64 * time as u64
     }
 
+    // The comparison of edges: whether the claim's box, moved outwards by speed × time on every side, and the reach meet on both axes.
+    fn edges_meet(&self, reach: &Reach) -> bool
+        ensures { result ≡ edges_meet self.now reach.now }
+    {
+        let by = self.outwards(reach.time);
+        self.x.meets(by, &reach.x) && self.y.meets(by, &reach.y)
+    }
+
     // Whether the claim's box, moved outwards by speed × time on every side, and the reach have a point in common.
     pub fn blocks(&self, reach: &Reach) -> bool
         ensures value { result ≡ blocks self.now reach.now }
         ensures point { Decides result (Blocks self.now reach.now) }
     {
-        let by = self.outwards(reach.time);
-        self.x.meets(by, &reach.x) && self.y.meets(by, &reach.y)
+        self.edges_meet(reach)
     }
 }
