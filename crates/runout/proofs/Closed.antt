@@ -5,7 +5,8 @@ use Rattle.std.proofs.lemmas.Bool.{cond_both, eqb-true, eqb-false, leb-true, leb
 use Rattle.runout.specs.Speeds.{slowing, RunOutOf}
 use Rattle.runout.specs.Formulas.{stop_formula, rise_formula, fall_formula}
 use Rattle.runout.proofs.Ramps.{same, climb_is, stops}
-use Rattle.runout.proofs.Courses.{course, gains, loses, halts, rests}
+use Rattle.runout.specs.RunOuts.{course}
+use Rattle.runout.proofs.Courses.{gains, loses, halts, rests}
 
 pub stop_right : (v rate : ℕ) → 0 < rate → RunOutOf (slowing v rate) (stop_formula v rate)
 stop_right v rate falls =

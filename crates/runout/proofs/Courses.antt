@@ -1,27 +1,10 @@
 -- The speeds of a hold and the brake after it, as ramps. Assumes nothing.
-use Rattle.std.proofs.Common.{◌≡◌, ℕ, zero, suc, ◌+◌, ◌-◌, ◌*◌, ◌<◌, ◌≤◌, cond, ltb, ℤ, pos, neg_ℤ, sym, refl, ap, ◌∙◌, inl, inr, le_refl, add-zero, add-suc, suc-mul, zero-mul, arith}
+use Rattle.std.proofs.Common.{◌≡◌, ℕ, zero, suc, ◌+◌, ◌-◌, ◌*◌, ◌<◌, ◌≤◌, ℤ, pos, neg_ℤ, sym, refl, ap, ◌∙◌, inl, inr, le_refl, add-zero, add-suc, suc-mul, zero-mul, arith}
 use Rattle.std.proofs.lemmas.Nat.{mul-le}
-use Rattle.std.proofs.lemmas.Bool.{cases_lt, cond-true, cond-false, lt-ltb, le-ltb}
+use Rattle.std.proofs.lemmas.Bool.{cases_lt}
 use Rattle.runout.specs.Speeds.{changed, slowing, IsRunOut}
+use Rattle.runout.specs.RunOuts.{course, course_first, course_held, course_braked}
 use Rattle.runout.proofs.Ramps.{same, none, climb, rises, falls}
-
--- The speed at each ms from v on: it changes by g in each ms below hold, and falls by b in each ms from hold on. It does not fall below 0; nor does `-`.
-unfoldable pub course : (hold : ℕ) (g : ℤ) (b v : ℕ) → ℕ → ℕ
-course hold g b v zero = v
-course hold g b v (suc i) = cond (ltb i hold) (changed (course hold g b v i) g) (course hold g b v i - b)
-
-module _ (hold : ℕ) (g : ℤ) (b v : ℕ) where
-  pub course_first : course hold g b v 0 ≡ v
-  unfolding course
-  course_first = refl
-
-  pub course_held : (i : ℕ) → i < hold → course hold g b v (suc i) ≡ changed (course hold g b v i) g
-  unfolding course
-  course_held i h = cond-true (ltb i hold) _ _ (lt-ltb i hold h)
-
-  pub course_braked : (i : ℕ) → hold ≤ i → course hold g b v (suc i) ≡ course hold g b v i - b
-  unfolding course
-  course_braked i h = cond-false (ltb i hold) _ _ (le-ltb i hold h)
 
 module _ (hold : ℕ) (g : ℤ) (b v : ℕ) where
   -- the brake after the hold

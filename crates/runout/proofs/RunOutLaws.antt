@@ -1,5 +1,5 @@
 -- What the crates above know of the run-out of a plate. Assumes nothing.
-use Rattle.std.proofs.Common.{◌≡◌, ℕ, zero, suc, ◌+◌, ◌-◌, ◌*◌, ◌/◌, ◌%◌, ◌^◌, ◌<◌, ◌≤◌, min, ℤ, pos, negsuc, ◌+ℤ◌, nat_abs, ◌≤ℤ◌, sym, ap, ◌∙◌, subst, ⊎_elim, le_refl, add-zero, add-suc, suc-mul, zero-mul, mul-one, arith}
+use Rattle.std.proofs.Common.{◌≡◌, ℕ, zero, suc, ◌+◌, ◌-◌, ◌*◌, ◌/◌, ◌%◌, ◌^◌, ◌<◌, ◌≤◌, min, ℤ, pos, negsuc, ◌+ℤ◌, nat_abs, ◌≤ℤ◌, sym, ap, ◌∙◌, subst, ⊎_elim, le_refl, suc-mul, zero-mul, mul-one, arith}
 use mathlib.Core.Path.{fun_ext}
 use Rattle.std.proofs.lemmas.Nat.{mul-le}
 use Rattle.std.proofs.lemmas.Int.{ints}
@@ -7,7 +7,8 @@ use Rattle.std.proofs.lemmas.Bool.{cases_lt}
 use Rattle.plates.specs.declared.plates.Plate.{Plate}
 use Rattle.runout.specs.declared.run_outs.RunOut.{RunOut}
 use Rattle.runout.specs.Speeds.{changed, slowing, travelled, RunOutOf}
-use Rattle.runout.specs.RunOuts.{braking, speeds, speeds_first, speeds_held, speeds_braked, run_out, run_out_sums, HoldThenBrake}
+use Rattle.runout.specs.RunOuts.{braking, speeds, speeds_course, speeds_first, speeds_held, run_out, run_out_sums, HoldThenBrake}
+use Rattle.runout.proofs.Courses.{after}
 use Rattle.runout.proofs.BrakeLaws.{brake_run}
 use Rattle.runout.proofs.Laws.{run_out_unique, travelled_apart, travelled_most}
 use Rattle.runout.proofs.Summing.{summed}
@@ -18,9 +19,7 @@ module _ (p : Plate) (m a : ℤ) where
 
   -- From the end of the hold on, the speeds fall by the real braking.
   pub speeds_after : (i : ℕ) → speeds p m a (p.hold + i) ≡ slowing (speeds p m a p.hold) (braking p) i
-  speeds_after zero = ap (speeds p m a) (add-zero p.hold) ∙ omega (arith, zero-mul (braking p))
-  speeds_after (suc i) =
-      ap (speeds p m a) (add-suc p.hold i) ∙ speeds_braked p m a (p.hold + i) (omega arith) ∙ omega (arith, speeds_after i, suc-mul i (braking p))
+  speeds_after = subst (λ e. (i : ℕ) → e (p.hold + i) ≡ slowing (e p.hold) (braking p) i) (sym (speeds_course p m a)) (after p.hold _ (braking p) _)
 
   -- and after as many ms as the speed at its end they are 0
   pub speeds_rest : (i : ℕ) → p.hold + speeds p m a p.hold ≤ i → speeds p m a i ≡ 0

@@ -9,12 +9,11 @@ use Rattle.runout.specs.declared.sums.WorkedSum.{WorkedSum}
 use Rattle.plates.specs.Fields.{first_outside}
 use Rattle.runout.specs.Formulas.{rise_formula, fall_formula}
 use Rattle.plates.specs.Plates.{plate_refused, held}
-use Rattle.runout.specs.RunOuts.{braking, limits_refused, run_out_refused, run_out}
+use Rattle.runout.specs.RunOuts.{course, braking, limits_refused, run_out_refused, run_out}
 use Rattle.runout.specs.Speeds.{RunOutOf}
 use Rattle.runout.specs.WorkedSums.{worked_sums, Right}
 use Rattle.runout.proofs.Closed.{rise_right, fall_right}
 use Rattle.runout.proofs.Composed.{run_out_named}
-use Rattle.runout.proofs.Courses.{course}
 
 -- the closed formula, by the sign of the change in the hold
 abbrev formula : (hold : ℕ) (g : ℤ) (b v : ℕ) → RunOut

@@ -32,10 +32,14 @@ Within p m a = (pos 0 ≤ℤ m) × (m ≤ℤ pos 10000000) × (neg_ℤ (pos p.br
 abbrev pub braking : Plate → ℕ
 braking p = p.brake - p.drive_error
 
--- The highest speed that the cart may have at each ms: at 0 the measured speed m, which is not below 0, and the speed error; in each ms of the hold it changes by a and the drive error, and from then on it falls by the real braking. It does not fall below 0; nor does `-`.
+-- The speed at each ms where at 0 it is v, in each ms of the hold it changes by g, and from then on it falls by b. It does not fall below 0; nor does `-`.
+pub course : (hold : ℕ) (g : ℤ) (b v : ℕ) → ℕ → ℕ
+course hold g b v zero = v
+course hold g b v (suc i) = cond (nat_lt i hold) (changed (course hold g b v i) g) (course hold g b v i - b)
+
+-- The highest speed that the cart may have at each ms: at 0 the measured speed m, which is not below 0, and the speed error; in each ms of the hold it changes by a and the drive error, and from then on it falls by the real braking.
 pub speeds : Plate → ℤ → ℤ → ℕ → ℕ
-speeds p m a zero = unsigned_abs m + p.speed_error
-speeds p m a (suc i) = cond (nat_lt i p.hold) (changed (speeds p m a i) (a +ℤ pos p.drive_error)) (speeds p m a i - braking p)
+speeds p m a = course p.hold (a +ℤ pos p.drive_error) (braking p) (unsigned_abs m + p.speed_error)
 
 -- A ms from which all these speeds are 0: the hold, and then as many as the speed at its end, as each takes 1 off or more.
 settled : Plate → ℤ → ℤ → ℕ
@@ -50,18 +54,35 @@ run_out p m a = record {
 }
 
 -- What is known of them elsewhere: the speed at 0, its step in the hold, its step under the brake; and that the run-out is the sums up to some ms, which is late enough.
+module _ (hold : ℕ) (g : ℤ) (b v : ℕ) where
+  pub course_first : course hold g b v 0 ≡ v
+  unfolding course
+  course_first = refl
+
+  pub course_held : (i : ℕ) → i < hold → course hold g b v (suc i) ≡ changed (course hold g b v i) g
+  unfolding course
+  course_held i h = cond-true (nat_lt i hold) _ _ (lt-ltb i hold h)
+
+  pub course_braked : (i : ℕ) → hold ≤ i → course hold g b v (suc i) ≡ course hold g b v i - b
+  unfolding course
+  course_braked i h = cond-false (nat_lt i hold) _ _ (le-ltb i hold h)
+
 module _ (p : Plate) (m a : ℤ) where
+  pub speeds_course : speeds p m a ≡ course p.hold (a +ℤ pos p.drive_error) (braking p) (unsigned_abs m + p.speed_error)
+  unfolding speeds
+  speeds_course = refl
+
   pub speeds_first : speeds p m a 0 ≡ unsigned_abs m + p.speed_error
   unfolding speeds
-  speeds_first = refl
+  speeds_first = course_first _ _ _ _
 
   pub speeds_held : (i : ℕ) → i < p.hold → speeds p m a (suc i) ≡ changed (speeds p m a i) (a +ℤ pos p.drive_error)
   unfolding speeds
-  speeds_held i h = cond-true (nat_lt i p.hold) _ _ (lt-ltb i p.hold h)
+  speeds_held = course_held _ _ _ _
 
   pub speeds_braked : (i : ℕ) → p.hold ≤ i → speeds p m a (suc i) ≡ speeds p m a i - braking p
   unfolding speeds
-  speeds_braked i h = cond-false (nat_lt i p.hold) _ _ (le-ltb i p.hold h)
+  speeds_braked = course_braked _ _ _ _
 
   pub run_out_sums : (n : ℕ) × (p.hold + speeds p m a p.hold ≡ n) × (run_out p m a ≡ record { travel = travelled (speeds p m a) n; time = rest_time (speeds p m a) n; peak = largest (speeds p m a) n })
   unfolding settled run_out

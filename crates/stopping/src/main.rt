@@ -44,6 +44,7 @@ fn plate_of(rt: &HostRuntime, text: &str) -> anyhow::Result<Plate> {
     })
 }
 
+// How the program is called, where it was called in another way. The other programs have these two lines with other words; a crate that gives them would make no program shorter.
 fn misused(rt: &HostRuntime) -> anyhow::Result<()> {
     eprintln!(rt; "{USAGE}")?;
     Err(anyhow!("stopping takes no arguments, and a plate on standard input"))
