@@ -16,7 +16,7 @@ use Rattle.surroundings.specs.Asking.{FirstBlocking}
 use Rattle.surroundings.proofs.AskLaws.{first_is}
 use Rattle.gate.specs.declared.faults.TickFault.TheVariants.{Blocked}
 use Rattle.gate.specs.Faults.{tick_fault}
-use Rattle.gate.specs.Checks.{Tick, open_refused}
+use Rattle.gate.specs.Checks.{Tick, reach_from, open_refused}
 use Rattle.gate.specs.World.{Near, Point, Cart, Millisecond, Measures, Touches, Collision}
 use Rattle.gate.proofs.Passing.{run_of, reach_of, Stopped, stopped}
 use Rattle.gate.proofs.Motion.{changed_braking, speed_at, travel_at}
@@ -54,6 +54,7 @@ module _ (p : Plate) (t : Tick) (claim : Claim) (sound : Sound claim) (k : Stopp
   right = run_out_right p t.measured.speed t.proposal.acceleration
 
   path : (px : ℕ → ℤ) × (py : ℕ → ℤ) × ((i : ℕ) → Covers claim i (px i) (py i)) × (px (run_of p t).time ≡ b.x) × (py (run_of p t).time ≡ b.y)
+  unfolding reach_from
   path = covers_path claim (run_of p t).time b.x b.y sound b.covered
 
   cart : ℕ → Cart
@@ -107,7 +108,7 @@ module _ (p : Plate) (t : Tick) (claim : Claim) (sound : Sound claim) (k : Stopp
   travelled_all = right.whole (suc n) (omega (arith, last))
 
   touches : Touches p (cart (suc n)) (point (suc n))
-  unfolding cart point
+  unfolding cart point reach_from
   touches = record {
     on_x = subst (λ z. Near p.half_side (towards t.measured.x (p.place_error + travel_at p t (suc n)) b.x) z) (sym (ap path.0 (sym last) ∙ path.3)) (towards_end t.measured.x b.x p.half_side p.place_error (run_of p t).travel (travel_at p t (suc n)) travelled_all b.within_x.0 b.within_x.1);
     on_y = subst (λ z. Near p.half_side (towards t.measured.y (p.place_error + travel_at p t (suc n)) b.y) z) (sym (ap path.1 (sym last) ∙ path.4)) (towards_end t.measured.y b.y p.half_side p.place_error (run_of p t).travel (travel_at p t (suc n)) travelled_all b.within_y.0 b.within_y.1);

@@ -73,7 +73,7 @@ unblocked zero o h k = absurd (omega arith)
 unblocked (suc n) o h k = claims_none o (rw (eqb-suc-zero n) at h)
 
 pub passed : (p : Plate) (t : Tick) → open_refused p t ≡ None → Passed p t
-unfolding open_refused
+unfolding open_refused run_out_checked blocked reach_from
 passed p t h =
     let out = run_of p t in
     let first = or_none (option_map (λ field. tick_fault (Measured field)) (bad_field t.measured)) _ h in
@@ -131,7 +131,7 @@ named zero o claim h = nothing (sym h)
 named (suc n) o claim h = (omega arith, claims_some o claim (rw (eqb-suc-zero n) at h))
 
 pub stopped : (p : Plate) (t : Tick) (claim : Claim) → open_refused p t ≡ Some (tick_fault (Blocked claim)) → Stopped p t claim
-unfolding open_refused
+unfolding open_refused run_out_checked blocked reach_from
 stopped p t claim h =
     let out = run_of p t in
     let first = measured_other (bad_field t.measured) _ claim h in

@@ -22,7 +22,7 @@ use Rattle.gate.specs.declared.parts.Curve.TheVariants.{Straight, Arc}
 use Rattle.gate.specs.declared.parts.State.{State}
 use Rattle.gate.specs.declared.parts.State.TheVariants.{Open, Tripped as TrippedBy}
 use Rattle.gate.specs.Faults.{tick_fault}
-use Rattle.gate.specs.Checks.{Tick, open_refused}
+use Rattle.gate.specs.Checks.{Tick, reach_from, open_refused}
 use Rattle.gate.specs.Gates.{refused_in, tick_refused, order_by, tick_order, left_by, release_refused, opened_by}
 use Rattle.gate.specs.World.{Near, Point, Cart, used, Millisecond, Moves, Measures, Touches, Happening, tick, Accepted, World, driven, Happens, accepted, refused, released, passed, Run, start, next, Turns, SpeedKept, Untouched, Justified, Guarded}
 use Rattle.gate.proofs.Passing.{run_of, reach_of, not_tripped}
@@ -115,6 +115,7 @@ in_reach : (z x y : ℤ) (h p t d : ℕ) → Near (p + t) z x → Near h x y →
 in_reach z x y h p t d a b k = (omega (arith, ints), omega (arith, ints))
 
 no_touch : (p : Plate) (t : Tick) (c : Cart) (i : ℕ) → Bounded p t c i → i ≤ (run_of p t).time → 0 < (run_of p t).time → (claim : Claim) → ContainsAt t.claims claim → (point : Point) → Covers claim i point.x point.y → Touches p c point → ⊥
+unfolding reach_from
 no_touch p t c i b short long claim has point covered touch =
     let free : FirstBlocking t.claims (reach_of p t) None = subst (FirstBlocking t.claims (reach_of p t)) (b.passes.clear long) (first_is (reach_of p t) t.claims) in
     let far = travelled_within (right_of p t) i in

@@ -23,7 +23,7 @@ use Rattle.gate.specs.declared.parts.Curve.TheVariants.{Straight, Arc}
 use Rattle.gate.specs.declared.parts.Measurement.{Measurement}
 use Rattle.gate.specs.declared.sums.WorkedTick.{WorkedTick}
 use Rattle.gate.specs.Faults.{tick_fault}
-use Rattle.gate.specs.Checks.{Tick, bad_field, radius_allowed, turn_allowed, open_refused}
+use Rattle.gate.specs.Checks.{Tick, bad_field, radius_allowed, turn_allowed, reach_from, blocked, run_out_checked, open_refused}
 use Rattle.gate.specs.WorkedTicks.{worked_ticks, tick_of, number_of, RightTick}
 
 -- the first claim that blocks, by edges
@@ -74,7 +74,7 @@ module _ (p : Plate) (t : Tick) where
   out = run_out p t.measured.speed t.proposal.acceleration
 
   spelt : open_refused p t ≡ rules p.brake p.pull p.top_speed p.turn_limit p.half_side p.place_error t out (first_blocking t.claims)
-  unfolding open_refused
+  unfolding open_refused run_out_checked blocked reach_from
   spelt = rw (same_turn p t.proposal.curve out.peak)
 
   ruled : (f : PlateFields) → held p ≡ f → open_refused p t ≡ by_rules f t
@@ -86,11 +86,11 @@ module _ (p : Plate) (t : Tick) where
       )
 
 -- what is computed of a row, and what it should be
-abbrev found : WorkedTick → Option Refusal × (RunOut × ℕ)
+abbrev found : WorkedTick → Option Refusal × (RunOut × Option ℕ)
 found s = (plate_refused s.fields, (by_formula s.fields s.measured.speed s.proposal.acceleration, number_of (by_rules s.fields (tick_of s))))
 
-abbrev wanted : WorkedTick → Option Refusal × (RunOut × ℕ)
-wanted s = (None, (s.out, s.number))
+abbrev wanted : WorkedTick → Option Refusal × (RunOut × Option ℕ)
+wanted s = (None, (s.out, s.refused))
 
 right : (s : WorkedTick) → found s ≡ wanted s → RightTick s
 right s same = (

@@ -53,7 +53,7 @@ turn_allowed p Straight v = true
 turn_allowed p (Arc radius) v = nat_le v (p.turn_limit * unsigned_abs radius)
 
 -- The reach of a run-out: the place ± (half side + place error + travel) on both axes, over its time.
-abbrev pub reach_from : Plate → Measurement → RunOut → Reach
+unfoldable pub reach_from : Plate → Measurement → RunOut → Reach
 reach_from p q out =
     let s : ℕ = p.half_side + p.place_error + out.travel in
     record {
@@ -68,11 +68,11 @@ of_run_out Fast = Measured Speed
 of_run_out Strong = Acceleration
 
 -- The refusal of a reach by the claims around, if its time is at least 1 and one blocks it.
-abbrev pub blocked : List Claim → Reach → Option Refusal
+unfoldable pub blocked : List Claim → Reach → Option Refusal
 blocked claims reach = cond (reach.time == 0) None (option_map (λ claim. tick_fault (Blocked claim)) (first_blocking claims reach))
 
 -- The first refusal of the checks that follow the run-out.
-abbrev pub run_out_checked : Plate → Tick → RunOut → Option Refusal
+unfoldable pub run_out_checked : Plate → Tick → RunOut → Option Refusal
 run_out_checked p t out =
     or_else
     (first_of (

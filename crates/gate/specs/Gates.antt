@@ -2,7 +2,7 @@
 use Rattle.std.specs.Prelude.{◌≡◌, List, [], ◌∷◌, pos, neg_ℤ, Some, None, Ok, Err, Option, Result, int_le}
 use Rattle.std.specs.Option.{option_map}
 use Rattle.refusals.specs.Refusals.{Refusal}
-use Rattle.refusals.specs.Answers.{first_of, or_else}
+use Rattle.refusals.specs.Answers.{first_of, or_else, Answers}
 use Rattle.plates.specs.declared.plates.Plate.{Plate}
 use Rattle.claims.specs.declared.boxes.Claim.{Claim}
 use Rattle.gate.specs.declared.parts.Curve.TheVariants.{Straight}
@@ -12,11 +12,13 @@ use Rattle.gate.specs.declared.parts.MeasurementField.{MeasurementField}
 use Rattle.gate.specs.declared.parts.State.{State}
 use Rattle.gate.specs.declared.parts.State.TheVariants.{Open, Tripped as TrippedBy}
 use Rattle.gate.specs.declared.parts.TickRefusal.{TickRefusal}
+use Rattle.gate.specs.declared.parts.Tick.{Tick as GivenTick}
 use Rattle.gate.specs.declared.parts.Event.{Event}
 use Rattle.gate.specs.declared.parts.Event.TheVariants.{Tick as TickEvent, Release}
 use Rattle.gate.specs.declared.parts.Answer.{Answer}
-use Rattle.gate.specs.declared.parts.Answer.TheVariants.{Ordered, TickRefused, Opened, ReleaseRefused}
-use Rattle.gate.specs.declared.faults.TickFault.TheVariants.{Tripped}
+use Rattle.gate.specs.declared.parts.Answer.TheVariants.{Tick as TickAnswer, Release as ReleaseAnswer}
+use Rattle.gate.specs.declared.faults.TickFault.{TickFault}
+use Rattle.gate.specs.declared.faults.TickFault.TheVariants.{Tripped, Measured as OutOfRange}
 use Rattle.gate.specs.declared.faults.ReleaseFault.TheVariants.{NotTripped, Measured, Moving}
 use Rattle.gate.specs.declared.gates.Gate.{Gate}
 use Rattle.gate.specs.Faults.{tick_fault, release_fault}
@@ -55,6 +57,11 @@ abbrev pub tripped : State → Measurement → State
 tripped Open q = tripped_at (bad_field q)
 tripped (TrippedBy field) q = TrippedBy field
 
+-- the state in which a fault leaves an open gate: it is tripped by a field of a measurement, and by nothing else
+unfoldable pub tripped_by : TickFault → State
+tripped_by (OutOfRange field) = TrippedBy field
+tripped_by _ = Open
+
 -- The gate that a tick leaves: with the proposal's curve and a ticket, or unchanged but that it may have tripped.
 abbrev pub left_by : Gate → Tick → Option Refusal → Gate
 left_by g t None = record { plate = g.plate; curve = t.proposal.curve; ticket = Some (ticket_of g.plate t); state = Open }
@@ -68,12 +75,16 @@ abbrev pub TickAnswers : Gate → Tick → Result Order TickRefusal → Type 0
 TickAnswers g t (Ok order) = (tick_refused g t ≡ None) × (order ≡ tick_order g t)
 TickAnswers g t (Err e) = (tick_refused g t ≡ Some (tick_fault e.fault)) × (e.order ≡ tick_order g t)
 
--- The refusal of a release, if any: the gate is not tripped; the measurement is out of its ranges; the speed is above the speed error.
-abbrev pub release_in : State → Plate → Measurement → Option Refusal
-release_in Open p q = Some (release_fault NotTripped)
-release_in (TrippedBy field) p q =
+-- the refusal of a release of a tripped gate, if any: the measurement is out of its ranges; the speed is above the speed error
+abbrev pub opening_refused : Plate → Measurement → Option Refusal
+opening_refused p q =
     or_else (option_map (λ field. release_fault (Measured field)) (bad_field q))
     (first_of ((int_le q.speed (pos p.speed_error), release_fault Moving) ∷ []))
+
+-- The refusal of a release, if any: the gate is not tripped, or may not be opened.
+abbrev pub release_in : State → Plate → Measurement → Option Refusal
+release_in Open p q = Some (release_fault NotTripped)
+release_in (TrippedBy field) p q = opening_refused p q
 
 abbrev pub release_refused : Gate → Measurement → Option Refusal
 release_refused g q = release_in g.state g.plate q
@@ -86,21 +97,21 @@ opened_by g (Some refusal) = g
 abbrev pub after_release : Gate → Measurement → Gate
 after_release g q = opened_by g (release_refused g q)
 
--- the tick of an event, whose claims are the list that its surroundings mean
+-- a tick in clauses
 abbrev pub asked : Measurement → Order → List Claim → Tick
 asked q o cs = record { measured = q; proposal = o; claims = cs }
 
+-- the tick of an event: its claims are the list that its surroundings mean
+abbrev pub meant : {S : Type 0} → (S → List Claim) → GivenTick S → Tick
+meant claims t = asked t.measured t.proposal (claims t.around.now)
+
 -- What comes of an event, as an answer and as a gate.
 abbrev pub Handled : {S : Type 0} → (S → List Claim) → Gate → Event S → Answer → Type 0
-Handled claims g (TickEvent q o s) (Ordered order) = TickAnswers g (asked q o (claims s.now)) (Ok order)
-Handled claims g (TickEvent q o s) (TickRefused e) = TickAnswers g (asked q o (claims s.now)) (Err e)
-Handled claims g (TickEvent q o s) Opened = ⊥
-Handled claims g (TickEvent q o s) (ReleaseRefused e) = ⊥
-Handled claims g (Release q) (Ordered order) = ⊥
-Handled claims g (Release q) (TickRefused e) = ⊥
-Handled claims g (Release q) Opened = release_refused g q ≡ None
-Handled claims g (Release q) (ReleaseRefused e) = release_refused g q ≡ Some (release_fault e)
+Handled claims g (TickEvent t) (TickAnswer r) = TickAnswers g (meant claims t) r
+Handled claims g (TickEvent t) (ReleaseAnswer r) = ⊥
+Handled claims g (Release q) (TickAnswer r) = ⊥
+Handled claims g (Release q) (ReleaseAnswer r) = Answers release_fault (release_refused g q) (λ _. Unit {0}) r
 
 abbrev pub left : {S : Type 0} → (S → List Claim) → Gate → Event S → Gate
-left claims g (TickEvent q o s) = after_tick g (asked q o (claims s.now))
+left claims g (TickEvent t) = after_tick g (meant claims t)
 left claims g (Release q) = after_release g q

@@ -1,19 +1,19 @@
 // The checks of a tick, in their order.
-ghost use Rattle.std.specs.Prelude.{◌≡◌, ◌^◌, ◌<◌, None};
+ghost use Rattle.std.specs.Prelude.{◌≡◌, ◌-ℤ◌, ◌+ℤ◌, ◌^◌, ◌<◌, pos, true, None};
+ghost use Rattle.std.specs.Result.{result_err};
 ghost use Rattle.refusals.specs.Answers.{Answers};
 ghost use Rattle.gate.specs.Faults.{tick_fault, field_number};
-ghost use Rattle.gate.specs.Checks.{placed, bad_field, radius_allowed, turn_allowed, reach_from, of_run_out, run_out_checked, open_refused, ticket_from, ticket_of};
+ghost use Rattle.gate.specs.Checks.{placed, bad_field, radius_allowed, turn_allowed, reach_from, blocked, run_out_checked, open_refused, ticket_from, ticket_of};
+ghost use Rattle.gate.specs.Gates.{meant};
 
 use crate::faults::TickFault;
-use crate::parts::{Curve, Measurement, MeasurementField, Order, Ticket};
-use runout::{Plate, RunOut, RunOutFault, run_out};
+use crate::parts::{Curve, Measurement, MeasurementField, Tick, Ticket};
+use refusals::check;
+use runout::{FASTEST, Plate, RunOut, run_out};
 use surroundings::{Reach, Span, Surroundings};
 
 // The farthest that a cart may be measured from 0 on an axis.
 const FAR: i64 = 1_000_000_000_000;
-
-// The highest speed that may be measured.
-const FASTEST: i64 = 10_000_000;
 
 impl MeasurementField {
     // Its place in a measurement, from 1.
@@ -28,131 +28,108 @@ impl MeasurementField {
 fn placed(z: i64) -> bool
     ensures { result ≡ placed z }
 {
-    -FAR <= z && z <= FAR
+    (-FAR..=FAR).contains(&z)
 }
 
-// The first field of a measurement out of its range.
-pub(crate) fn bad_field(measured: Measurement) -> Option<MeasurementField>
-    ensures { result ≡ bad_field measured }
-{
-    if !placed(measured.x) {
-        Some(MeasurementField::X)
-    } else if !placed(measured.y) {
-        Some(MeasurementField::Y)
-    } else if measured.speed < 0 || measured.speed > FASTEST {
-        Some(MeasurementField::Speed)
-    } else {
-        None
+impl Measurement {
+    // Nothing, or the first field out of its range.
+    pub(crate) fn checked(self) -> Result<(), MeasurementField>
+        ensures { result_err result ≡ bad_field self }
+    {
+        if !placed(self.x) {
+            Err(MeasurementField::X)
+        } else if !placed(self.y) {
+            Err(MeasurementField::Y)
+        } else if !(0..=FASTEST).contains(&self.speed) {
+            Err(MeasurementField::Speed)
+        } else {
+            Ok(())
+        }
     }
 }
 
-// Whether a radius is neither 0 nor larger than 1,000,000 in size.
-fn radius_allowed(curve: Curve) -> bool
-    ensures { result ≡ radius_allowed curve }
-{
-    match curve {
-        Curve::Straight => true,
-        Curve::Arc(radius) => 1 <= radius.unsigned_abs() && radius.unsigned_abs() <= 1_000_000,
+impl Curve {
+    // Whether a radius is neither 0 nor larger than 1,000,000 in size.
+    fn radius_allowed(self) -> bool
+        ensures { result ≡ radius_allowed self }
+    {
+        match self {
+            Curve::Straight => true,
+            Curve::Arc(radius) => (1..=1_000_000).contains(&radius.unsigned_abs()),
+        }
     }
-}
 
-// Whether a peak is within turn limit × the radius's size.
-fn turn_allowed(plate: &Plate, curve: Curve, peak: u64) -> bool
-    requires { peak < 2 ^ 25 }
-    ensures { result ≡ turn_allowed plate.now curve peak }
-{
-    match curve {
-        Curve::Straight => true,
-        Curve::Arc(radius) => {
-            match plate.turn_limit().checked_mul(radius.unsigned_abs()) {
-                Some(limit) => peak <= limit,
-                None => true,
+    // Whether a peak is within turn limit × the radius's size. A product that is too large for 64 bits is above every peak.
+    fn turn_allowed(self, plate: &Plate, peak: u64) -> bool
+        ensures { result ≡ turn_allowed plate.now self peak }
+    {
+        match self {
+            Curve::Straight => true,
+            Curve::Arc(radius) => {
+                peak <= plate.turn_limit().saturating_mul(radius.unsigned_abs())
             }
         }
     }
 }
 
-// Where the cart may come, and for how long.
-#[tactic(auto, using(crate::proofs::Checking::reach_made))]
-fn reach_from(plate: &Plate, measured: Measurement, out: RunOut) -> Reach
-    requires { (bad_field measured ≡ None) × (out.travel < 2 ^ 53) }
-    ensures { result ≡ reach_from plate.now measured out }
+// The places within a distance of a measured one.
+fn span_around(z: i64, distance: u64) -> Span
+    requires { (placed z ≡ true) × (distance < 2 ^ 62) }
+    ensures { result ≡ record { low = z -ℤ pos distance; high = z +ℤ pos distance } }
 {
-    let side = (plate.half_side() + plate.place_error() + out.travel) as i64;
-    Reach {
-        x: Span {
-            low: measured.x - side,
-            high: measured.x + side,
-        },
-        y: Span {
-            low: measured.y - side,
-            high: measured.y + side,
-        },
-        time: out.time,
+    let distance = distance as i64;
+    Span {
+        low: z - distance,
+        high: z + distance,
     }
 }
 
-// The checks that follow the run-out: a ticket, or the first fault.
-fn checked_run_out<S: Surroundings>(
-    plate: &Plate,
-    measured: Measurement,
-    proposal: Order,
-    around: &S,
-    out: RunOut,
-) -> Result<Ticket, TickFault>
-    requires { (bad_field measured ≡ None) × ((out.travel < 2 ^ 53) × (out.peak < 2 ^ 25)) }
-    ensures { Answers tick_fault
-        (run_out_checked plate.now (record { measured = measured; proposal = proposal; claims = S.Surroundings.claims around.now }) out)
-        (λ ticket. ticket ≡ ticket_from plate.now (record { measured = measured; proposal = proposal; claims = S.Surroundings.claims around.now }) out) result }
-{
-    if !radius_allowed(proposal.curve) {
-        return Err(TickFault::Radius);
-    }
-    if out.peak > plate.top_speed() {
-        return Err(TickFault::TopSpeed);
-    }
-    if !turn_allowed(plate, proposal.curve, out.peak) {
-        return Err(TickFault::TurnLimit);
-    }
-    let reach = reach_from(plate, measured, out);
-    if out.time > 0 {
-        if let Some(claim) = around.first_blocking(&reach) {
-            return Err(TickFault::Blocked(claim));
+impl<S: Surroundings> Tick<'_, S> {
+    // Where the cart may come, and for how long.
+    #[tactic(auto, unfolding(crate::specs::Checks::reach_from))]
+    fn reach(&self, plate: &Plate, out: RunOut) -> Reach
+        requires { (bad_field self.now.measured ≡ None) × (out.travel < 2 ^ 53) }
+        ensures { result ≡ reach_from plate.now self.now.measured out }
+    {
+        let side = plate.half_side() + plate.place_error() + out.travel;
+        Reach {
+            x: span_around(self.measured.x, side),
+            y: span_around(self.measured.y, side),
+            time: out.time,
         }
     }
-    Ok(Ticket {
-        acceleration: proposal.acceleration,
-        reach,
-    })
-}
 
-// What turns the run-out down is a fault of the tick.
-fn of_run_out(fault: RunOutFault) -> TickFault
-    ensures { result ≡ of_run_out fault }
-{
-    match fault {
-        RunOutFault::Speed => TickFault::Measured(MeasurementField::Speed),
-        RunOutFault::Acceleration => TickFault::Acceleration,
+    // Nothing, or the first claim that blocks a reach of at least 1 ms.
+    #[tactic(auto, unfolding(crate::specs::Checks::blocked))]
+    fn unblocked(&self, reach: &Reach) -> Result<(), TickFault>
+        ensures { Answers tick_fault (blocked (S.Surroundings.claims self.now.around.now) reach.now) (λ _. Unit {0}) result }
+    {
+        if reach.time > 0
+            && let Some(claim) = self.around.first_blocking(reach)
+        {
+            return Err(TickFault::Blocked(claim));
+        }
+        Ok(())
     }
-}
 
-// The checks of an open gate, in their order: a ticket, or the first fault.
-#[tactic(auto, using(crate::proofs::Checking::measured_refused))]
-pub(crate) fn checked<S: Surroundings>(
-    plate: &Plate,
-    measured: Measurement,
-    proposal: Order,
-    around: &S,
-) -> Result<Ticket, TickFault>
-    ensures { Answers tick_fault
-        (open_refused plate.now (record { measured = measured; proposal = proposal; claims = S.Surroundings.claims around.now }))
-        (λ ticket. ticket ≡ ticket_of plate.now (record { measured = measured; proposal = proposal; claims = S.Surroundings.claims around.now })) result }
-{
-    if let Some(field) = bad_field(measured) {
-        return Err(TickFault::Measured(field));
-    }
-    match run_out(plate, measured.speed, proposal.acceleration) {
-        Ok(out) => checked_run_out(plate, measured, proposal, around, out),
-        Err(fault) => Err(of_run_out(fault)),
+    // The checks of an open gate, in their order: a ticket, or the first fault.
+    #[tactic(auto, unfolding(crate::specs::Checks::open_refused, crate::specs::Checks::run_out_checked))]
+    pub(crate) fn checked(&self, plate: &Plate) -> Result<Ticket, TickFault>
+        ensures { Answers tick_fault (open_refused plate.now (meant S.Surroundings.claims self.now)) (λ ticket. ticket ≡ ticket_of plate.now (meant S.Surroundings.claims self.now)) result }
+    {
+        self.measured.checked().map_err(TickFault::Measured)?;
+        let out = run_out(plate, self.measured.speed, self.proposal.acceleration)?;
+        check(self.proposal.curve.radius_allowed(), TickFault::Radius)?;
+        check(out.peak <= plate.top_speed(), TickFault::TopSpeed)?;
+        check(
+            self.proposal.curve.turn_allowed(plate, out.peak),
+            TickFault::TurnLimit,
+        )?;
+        let reach = self.reach(plate, out);
+        self.unblocked(&reach)?;
+        Ok(Ticket {
+            acceleration: self.proposal.acceleration,
+            reach,
+        })
     }
 }

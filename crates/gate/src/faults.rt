@@ -1,10 +1,11 @@
 // Why a tick or a release is refused.
-ghost use Rattle.std.specs.Prelude.{Some};
+ghost use Rattle.std.specs.Prelude.{◌≡◌, Some};
 ghost use Rattle.gate.specs.Faults.{tick_fault, tick_words, release_fault, release_words};
+ghost use Rattle.gate.specs.Checks.{of_run_out};
 ghost use Rattle.std.proofs.Common.{rules};
 
 use crate::parts::MeasurementField;
-use runout::{Fault, Layer};
+use runout::{Fault, Layer, RunOutFault};
 use std::fmt;
 use surroundings::Claim;
 
@@ -69,6 +70,18 @@ impl fmt::Display for TickFault {
                 let label = claim.label;
                 write!(f, "blocked by {label}")
             }
+        }
+    }
+}
+
+// What turns the run-out down is a fault of the tick.
+impl From<RunOutFault> for TickFault {
+    ghost from_gives = { λ fault tick. tick ≡ of_run_out fault };
+
+    fn from(fault: RunOutFault) -> TickFault {
+        match fault {
+            RunOutFault::Speed => TickFault::Measured(MeasurementField::Speed),
+            RunOutFault::Acceleration => TickFault::Acceleration,
         }
     }
 }

@@ -3,6 +3,7 @@ use crate::faults::{ReleaseFault, TickFault};
 use surroundings::Reach;
 
 // The path that the cart follows: straight on, or an arc of a signed radius in mm.
+// Not an `Option` of a radius: straight and arc are the defined words, which the clauses use, and `None` would say neither.
 #[derive(Clone, Copy, Debug, PartialEq, Eq)]
 pub enum Curve {
     Straight,
@@ -40,6 +41,7 @@ pub struct Ticket {
 }
 
 // Whether a gate is open, or tripped by a field of a measurement.
+// Not an `Option` of a field: open and tripped are the defined words, by which clauses and the match in place name the states, and `None` would say neither.
 #[derive(Clone, Copy, Debug, PartialEq, Eq)]
 pub enum State {
     Open,
@@ -53,24 +55,24 @@ pub struct TickRefusal {
     pub order: Order,
 }
 
+// A tick: what was measured, what a planner proposes, and what is around the cart.
+#[derive_where(Clone, Copy)]
+pub struct Tick<'a, S> {
+    pub measured: Measurement,
+    pub proposal: Order,
+    pub around: &'a S,
+}
+
 // What comes to a gate.
-#[derive(Drop)]
+#[derive_where(Clone, Copy)]
 pub enum Event<'a, S> {
-    Tick {
-        measured: Measurement,
-        proposal: Order,
-        around: &'a S,
-    },
-    Release {
-        measured: Measurement,
-    },
+    Tick(Tick<'a, S>),
+    Release(Measurement),
 }
 
 // What a gate answers to it.
 #[derive(Clone, Copy, Debug, PartialEq, Eq)]
 pub enum Answer {
-    Ordered(Order),
-    TickRefused(TickRefusal),
-    Opened,
-    ReleaseRefused(ReleaseFault),
+    Tick(Result<Order, TickRefusal>),
+    Release(Result<(), ReleaseFault>),
 }

@@ -4,7 +4,7 @@ ghost use Rattle.std.specs.List.{AllByRecursion};
 ghost use Rattle.gate.specs.WorkedTicks.{worked_ticks, RightTick};
 
 use crate::parts::{Curve, Measurement, Order};
-use runout::{PlateFields, RunOut};
+use runout::{EXACT, PlateFields, RunOut, SAMPLE};
 use surroundings::{Fixture, Mover, Span};
 
 // What is around the cart of a worked tick.
@@ -15,7 +15,7 @@ pub enum Around {
     Moving(Mover),
 }
 
-// A tick at a fresh gate, its run-out, and the number by which it is refused or 0.
+// A tick at a fresh gate, its run-out, and the number by which it is refused, if it is.
 #[derive(Clone, Copy, Debug, PartialEq, Eq)]
 pub struct WorkedTick {
     pub fields: PlateFields,
@@ -23,27 +23,8 @@ pub struct WorkedTick {
     pub proposal: Order,
     pub around: Around,
     pub out: RunOut,
-    pub number: u8,
+    pub refused: Option<u8>,
 }
-
-const SAMPLE: PlateFields = PlateFields {
-    brake: 1_200,
-    pull: 800,
-    drive_error: 200,
-    hold: 100,
-    speed_error: 10_000,
-    place_error: 20_000_000,
-    top_speed: 2_000_000,
-    turn_limit: 500,
-    half_side: 400_000_000,
-};
-
-// The sample plate without drive error and speed error.
-const EXACT: PlateFields = PlateFields {
-    drive_error: 0,
-    speed_error: 0,
-    ..SAMPLE
-};
 
 // A row of the table.
 macro_rules! row {
@@ -55,7 +36,7 @@ macro_rules! row {
         $around:expr => $travel:expr,
         $time:expr,
         $peak:expr,
-        $number:expr
+        $refused:expr
     ) => {
         WorkedTick {
             fields: $fields,
@@ -63,7 +44,7 @@ macro_rules! row {
             proposal: Order { acceleration: $acceleration, curve: $curve },
             around: $around,
             out: RunOut { travel: $travel, time: $time, peak: $peak },
-            number: $number,
+            refused: $refused,
         }
     };
 }
@@ -101,35 +82,27 @@ macro_rules! mover_aged {
     };
 }
 
-// The table, which is right as it was worked out.
-fn checked(table: [WorkedTick; 15]) -> [WorkedTick; 15]
-    requires { table ≡ worked_ticks }
-    ensures table { result ≡ worked_ticks }
-    ensures right { AllByRecursion RightTick result }
-{
-    table
-}
-
 // The table of worked ticks, each of which is right.
+#[tactic(auto, using(crate::proofs::WorkedTicks::ticks_right))]
 pub fn worked_ticks() -> [WorkedTick; 15]
     ensures table { result ≡ worked_ticks }
     ensures right { AllByRecursion RightTick result }
 {
-    checked([
-        row!(SAMPLE, 990_000, -200, Curve::Straight, Around::Nothing => 600_500_000, 1_100, 1_000_000, 0),
-        row!(SAMPLE, 990_000, 600, Curve::Straight, Around::Nothing => 687_780_000, 1_180, 1_080_000, 0),
-        row!(SAMPLE, 30_000, -1_200, Curve::Straight, Around::Nothing => 820_000, 40, 40_000, 0),
-        row!(SAMPLE, 30_500, -1_200, Curve::Straight, Around::Nothing => 840_500, 41, 40_500, 0),
-        row!(SAMPLE, 30_000, -1_000, Curve::Straight, Around::Nothing => 1_020_000, 50, 40_000, 0),
-        row!(SAMPLE, 990_000, -200, Curve::Straight, fixture_from!(1_020_500_001) => 600_500_000, 1_100, 1_000_000, 0),
-        row!(SAMPLE, 990_000, -200, Curve::Straight, fixture_from!(1_020_500_000) => 600_500_000, 1_100, 1_000_000, 40),
-        row!(SAMPLE, 990_000, -200, Curve::Straight, mover_aged!(158) => 600_500_000, 1_100, 1_000_000, 0),
-        row!(SAMPLE, 990_000, -200, Curve::Straight, mover_aged!(159) => 600_500_000, 1_100, 1_000_000, 40),
-        row!(SAMPLE, 1_990_000, -200, Curve::Straight, Around::Nothing => 2_201_000_000, 2_100, 2_000_000, 0),
-        row!(SAMPLE, 1_990_000, -199, Curve::Straight, Around::Nothing => 2_201_205_150, 2_101, 2_000_100, 38),
-        row!(SAMPLE, 990_000, -200, Curve::Arc(-2_000), Around::Nothing => 600_500_000, 1_100, 1_000_000, 0),
-        row!(SAMPLE, 990_000, -200, Curve::Arc(1_999), Around::Nothing => 600_500_000, 1_100, 1_000_000, 39),
-        row!(EXACT, 0, 0, Curve::Straight, OVER => 0, 0, 0, 0),
-        row!(EXACT, 0, 1, Curve::Straight, OVER => 5_150, 101, 100, 40),
-    ])
+    [
+        row!(SAMPLE, 990_000, -200, Curve::Straight, Around::Nothing => 600_500_000, 1_100, 1_000_000, None),
+        row!(SAMPLE, 990_000, 600, Curve::Straight, Around::Nothing => 687_780_000, 1_180, 1_080_000, None),
+        row!(SAMPLE, 30_000, -1_200, Curve::Straight, Around::Nothing => 820_000, 40, 40_000, None),
+        row!(SAMPLE, 30_500, -1_200, Curve::Straight, Around::Nothing => 840_500, 41, 40_500, None),
+        row!(SAMPLE, 30_000, -1_000, Curve::Straight, Around::Nothing => 1_020_000, 50, 40_000, None),
+        row!(SAMPLE, 990_000, -200, Curve::Straight, fixture_from!(1_020_500_001) => 600_500_000, 1_100, 1_000_000, None),
+        row!(SAMPLE, 990_000, -200, Curve::Straight, fixture_from!(1_020_500_000) => 600_500_000, 1_100, 1_000_000, Some(40)),
+        row!(SAMPLE, 990_000, -200, Curve::Straight, mover_aged!(158) => 600_500_000, 1_100, 1_000_000, None),
+        row!(SAMPLE, 990_000, -200, Curve::Straight, mover_aged!(159) => 600_500_000, 1_100, 1_000_000, Some(40)),
+        row!(SAMPLE, 1_990_000, -200, Curve::Straight, Around::Nothing => 2_201_000_000, 2_100, 2_000_000, None),
+        row!(SAMPLE, 1_990_000, -199, Curve::Straight, Around::Nothing => 2_201_205_150, 2_101, 2_000_100, Some(38)),
+        row!(SAMPLE, 990_000, -200, Curve::Arc(-2_000), Around::Nothing => 600_500_000, 1_100, 1_000_000, None),
+        row!(SAMPLE, 990_000, -200, Curve::Arc(1_999), Around::Nothing => 600_500_000, 1_100, 1_000_000, Some(39)),
+        row!(EXACT, 0, 0, Curve::Straight, OVER => 0, 0, 0, None),
+        row!(EXACT, 0, 1, Curve::Straight, OVER => 5_150, 101, 100, Some(40)),
+    ]
 }

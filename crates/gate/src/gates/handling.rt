@@ -1,45 +1,25 @@
 // What comes to a gate, and what becomes of it.
-ghost use Rattle.std.specs.Prelude.{◌≡◌, []};
+ghost use Rattle.std.specs.Prelude.{◌≡◌};
 ghost use Rattle.refusals.specs.Answers.{Answers};
 ghost use Rattle.gate.specs.Faults.{release_fault};
-ghost use Rattle.gate.specs.declared.parts.Event.TheVariants.{Release};
-ghost use Rattle.gate.specs.declared.parts.State.TheVariants.{Open};
-ghost use Rattle.gate.specs.Gates.{fresh, braking, tripped, asked, TickAnswers, after_tick, release_refused, after_release, Handled, left};
+ghost use Rattle.gate.specs.Gates.{fresh, braking, tripped_by, asked, TickAnswers, after_tick, opening_refused, release_refused, after_release, Handled, left};
 ghost use Rattle.gate.specs.World.{Guarded, Justified};
 
-use crate::checks::{bad_field, checked};
 use crate::faults::{ReleaseFault, TickFault};
 use crate::gates::Gate;
-use crate::parts::{Answer, Curve, Event, Measurement, Order, State, TickRefusal};
+use crate::parts::{Answer, Curve, Event, Measurement, Order, State, Tick, TickRefusal};
+use refusals::check;
 use runout::Plate;
-use surroundings::{Claim, Reach, Surroundings};
+use surroundings::{Fixture, Roster, Surroundings};
 
-// Surroundings with no claims: a release has none.
-struct Nothing;
-
-impl Surroundings for Nothing {
-    ghost claims = { λ _. [] };
-
-    ghost sound = { λ _. tt };
-
-    fn first_blocking(&self, reach: &Reach) -> Option<Claim> {
-        None
-    }
-}
-
-fn releasing<'a>(measured: Measurement) -> Event<'a, Nothing>
-    ensures { result ≡ Release measured }
+// The state in which a fault leaves an open gate: a measurement out of its ranges trips it.
+#[tactic(auto, unfolding(crate::specs::Gates::tripped_by))]
+fn state_after(fault: TickFault) -> State
+    ensures { result ≡ tripped_by fault }
 {
-    Event::Release { measured }
-}
-
-// The state in which a refused tick leaves an open gate: a measurement out of its ranges trips it.
-fn state_after(measured: Measurement) -> State
-    ensures { result ≡ tripped Open measured }
-{
-    match bad_field(measured) {
-        Some(field) => State::Tripped(field),
-        None => State::Open,
+    match fault {
+        TickFault::Measured(field) => State::Tripped(field),
+        _ => State::Open,
     }
 }
 
@@ -69,14 +49,14 @@ impl Gate {
         ensures gate { self.new ≡ after_tick self.old (asked measured proposal (S.Surroundings.claims around.now)) }
         ensures justified { Justified self.old (asked measured proposal (S.Surroundings.claims around.now)) }
     {
-        match self.handle(Event::Tick {
+        match self.handle(Event::Tick(Tick {
             measured,
             proposal,
             around,
-        }) {
-            Answer::Ordered(order) => Ok(order),
-            Answer::TickRefused(refusal) => Err(refusal),
-            Answer::Opened | Answer::ReleaseRefused(_) => unreachable(),
+        })) {
+            Answer::Tick(answer) => answer,
+            // Proved not to come. A type of answer for each type of event would need a trait over events, and then no one match would have state and event in place.
+            Answer::Release(_) => unreachable!(),
         }
     }
 
@@ -85,10 +65,10 @@ impl Gate {
         ensures answer { Answers release_fault (release_refused self.old measured) (λ _. Unit {0}) result }
         ensures gate { self.new ≡ after_release self.old measured }
     {
-        match self.handle(releasing(measured)) {
-            Answer::Opened => Ok(()),
-            Answer::ReleaseRefused(fault) => Err(fault),
-            Answer::Ordered(_) | Answer::TickRefused(_) => unreachable(),
+        // A release has no surroundings: the roster names only a type of them.
+        match self.handle::<Roster<Fixture>>(Event::Release(measured)) {
+            Answer::Release(answer) => answer,
+            Answer::Tick(_) => unreachable!(),
         }
     }
 
@@ -102,54 +82,54 @@ impl Gate {
         }
     }
 
+    // Nothing, or why a tripped gate may not be opened.
+    fn opening(&self, measured: Measurement) -> Result<(), ReleaseFault>
+        ensures { Answers release_fault (opening_refused self.now.plate measured) (λ _. Unit {0}) result }
+    {
+        measured.checked().map_err(ReleaseFault::Measured)?;
+        check(
+            measured.speed <= self.plate.speed_error() as i64,
+            ReleaseFault::Moving,
+        )
+    }
+
     // What comes to the gate in its state.
-    fn handle<'a, S: Surroundings>(&mut self, event: Event<'a, S>) -> Answer
+    #[tactic(auto, using(crate::proofs::Checking::left_open))]
+    fn handle<S: Surroundings>(&mut self, event: Event<'_, S>) -> Answer
         ensures answer { Handled S.Surroundings.claims self.old event.entry result }
         ensures gate { self.new ≡ left S.Surroundings.claims self.old event.entry }
     {
         match (self.state, event) {
-            (
-                State::Open,
-                Event::Tick {
-                    measured,
-                    proposal,
-                    around,
-                },
-            ) => {
-                match checked(&self.plate, measured, proposal, around) {
+            (State::Open, Event::Tick(tick)) => {
+                match tick.checked(&self.plate) {
                     Ok(ticket) => {
-                        self.curve = proposal.curve;
+                        self.curve = tick.proposal.curve;
                         self.ticket = Some(ticket);
-                        Answer::Ordered(proposal)
+                        Answer::Tick(Ok(tick.proposal))
                     }
                     Err(fault) => {
-                        self.state = state_after(measured);
-                        Answer::TickRefused(TickRefusal {
+                        self.state = state_after(fault);
+                        Answer::Tick(Err(TickRefusal {
                             fault,
                             order: self.braking(),
-                        })
+                        }))
                     }
                 }
             }
-            (State::Tripped(_), Event::Tick { .. }) => {
-                Answer::TickRefused(TickRefusal {
+            (State::Tripped(_), Event::Tick(_)) => {
+                Answer::Tick(Err(TickRefusal {
                     fault: TickFault::Tripped,
                     order: self.braking(),
-                })
+                }))
             }
-            (State::Tripped(_), Event::Release { measured }) => {
-                if let Some(field) = bad_field(measured) {
-                    return Answer::ReleaseRefused(ReleaseFault::Measured(field));
+            (State::Tripped(_), Event::Release(measured)) => {
+                let answer = self.opening(measured);
+                if answer.is_ok() {
+                    self.state = State::Open;
                 }
-                if measured.speed > self.plate.speed_error() as i64 {
-                    return Answer::ReleaseRefused(ReleaseFault::Moving);
-                }
-                self.state = State::Open;
-                Answer::Opened
+                Answer::Release(answer)
             }
-            (State::Open, Event::Release { .. }) => {
-                Answer::ReleaseRefused(ReleaseFault::NotTripped)
-            }
+            (State::Open, Event::Release(_)) => Answer::Release(Err(ReleaseFault::NotTripped)),
         }
     }
 }
