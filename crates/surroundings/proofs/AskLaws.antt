@@ -1,9 +1,8 @@
 -- What is known of the question. Assumes nothing.
-use Rattle.std.proofs.Common.{◌≡◌, ℕ, Bool, true, false, cond, List, [], ◌∷◌, ◌++◌, Some, None, Option, sym, refl, ap, ◌∙◌, subst}
+use Rattle.std.proofs.Common.{◌≡◌, ℕ, Bool, true, false, cond, List, [], ◌∷◌, ◌++◌, Some, None, Option, sym, refl, ap, ◌∙◌, subst, arith}
 use Rattle.std.specs.List.{AllByRecursion}
 use Rattle.std.specs.Option.{option_or}
 use Rattle.std.proofs.lemmas.List.Folds.{find-append}
-use Rattle.std.proofs.lemmas.Bool.{true≢false}
 use Rattle.claims.specs.declared.boxes.Span.{Span}
 use Rattle.claims.specs.declared.boxes.Claim.{Claim}
 use Rattle.claims.specs.declared.boxes.Reach.{Reach}
@@ -22,44 +21,27 @@ module _ (r : Reach) where
   pub first_after_strips : (x y : Span) (speed : ℕ) (ys : List Claim) → first_blocking (strips x y speed ++ ys) r ≡ option_or (first_blocking (strips x y speed) r) (first_blocking ys r)
   first_after_strips x y speed ys = first_append (strips x y speed) ys
 
-  clear : (c : Claim) → blocks c r ≡ false → Clear r c
-  clear c e b = let z : ◌≡◌ {A = Bool} true false = sym ((blocks_decides c r).1 b) ∙ e in true≢false z
-
   -- The value is the first that blocks, in plain words.
   pub first_is : (cs : List Claim) → FirstBlocking cs r (first_blocking cs r)
   first_is [] = subst (FirstBlocking [] r) (sym (first_none r)) tt
   first_is (c ∷ cs) = subst (FirstBlocking (c ∷ cs) r) (sym (first_next r c cs)) (by (blocks c r) refl (first_blocking cs r) (first_is cs))
     where
-      later : (o : Option Claim) → Clear r c → FirstBlocking cs r o → FirstBlocking (c ∷ cs) r o
-      later None free h = (free, h)
-      later (Some d) free h = (c ∷ h.0, h.1, ap (λ l. c ∷ l) h.2, (free, h.3), h.4)
-
       by : (b : Bool) → blocks c r ≡ b → (o : Option Claim) → FirstBlocking cs r o → FirstBlocking (c ∷ cs) r (cond b (Some c) o)
       by true e o h = ([], cs, refl, tt, (blocks_decides c r).0 e)
-      by false e o h = later o (clear c e) h
+      by false e None h = let d = blocks_decides c r in (λ b. grind (arith, d), h)
+      by false e (Some f) h = let d = blocks_decides c r in (c ∷ h.0, h.1, ap (λ l. c ∷ l) h.2, (λ b. grind (arith, d), h.3), h.4)
 
   -- the same of an answer that is the value
   pub first_said : (cs : List Claim) (o : Option Claim) → o ≡ first_blocking cs r → FirstBlocking cs r o
   first_said cs o e = subst (FirstBlocking cs r) (sym e) (first_is cs)
 
-  blocking : (c : Claim) → Blocks c r → blocks c r ≡ true
-  blocking c b = (blocks_decides c r).1 b
-
-  clear_false : (c : Claim) → Clear r c → blocks c r ≡ false
-  clear_false c free = by (blocks c r) refl
-    where
-      by : (b : Bool) → blocks c r ≡ b → blocks c r ≡ false
-      by true e = absurd (free ((blocks_decides c r).0 e))
-      by false e = e
-
   none_found : (cs : List Claim) → AllByRecursion (Clear r) cs → first_blocking cs r ≡ None
   none_found [] h = first_none r
-  none_found (c ∷ cs) h = first_next r c cs ∙ ap (λ b. cond b (Some c) (first_blocking cs r)) (clear_false c h.0) ∙ none_found cs h.1
+  none_found (c ∷ cs) h = let d = blocks_decides c r in let free = h.0 in grind (arith, d, free, first_next r c cs, none_found cs h.1)
 
   one_found : (front : List Claim) (c : Claim) (back : List Claim) → AllByRecursion (Clear r) front → Blocks c r → first_blocking (front ++ c ∷ back) r ≡ Some c
   one_found front c back free b =
-      first_append front (c ∷ back) ∙ ap (λ o. option_or o (first_blocking (c ∷ back) r)) (none_found front free) ∙
-      first_next r c back ∙ ap (λ t. cond t (Some c) (first_blocking back r)) (blocking c b)
+      grind (arith, first_append front (c ∷ back), none_found front free, first_next r c back, (blocks_decides c r).1 b)
 
   -- No other answer is.
   pub first_only : (cs : List Claim) (o : Option Claim) → FirstBlocking cs r o → o ≡ first_blocking cs r

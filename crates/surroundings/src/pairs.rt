@@ -6,7 +6,7 @@ use crate::asking::Surroundings;
 use claims::{Claim, Reach};
 
 // The claims of the first, and then those of the second.
-#[derive(Clone, Copy)]
+#[derive(Clone, Copy, Debug, PartialEq, Eq)]
 pub struct Pair<A, B> {
     pub first: A,
     pub second: B,

@@ -3,7 +3,8 @@ ghost use Rattle.surroundings_trial.specs.Barriers.{barrier_claims, barrier_soun
 
 use surroundings::{Claim, Reach, Span, Surroundings};
 
-#[derive(Clone, Copy)]
+// The barrier, closed or open.
+#[derive(Clone, Copy, Debug, PartialEq, Eq)]
 pub struct Barrier {
     pub closed: bool,
 }

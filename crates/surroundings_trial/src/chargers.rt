@@ -5,7 +5,7 @@ ghost use Rattle.claims.specs.Things.{near};
 mod kind;
 
 // A charging point by its centre.
-#[derive(Clone, Copy)]
+#[derive(Clone, Copy, Debug, PartialEq, Eq)]
 pub struct Charger {
     label: u32,
     x: i64,

@@ -327,7 +327,7 @@ fn a_horizon_is_refused_by_its_first_fault(rt: HostRuntime) {
 fn kinds_and_surroundings_of_ones_own(rt: HostRuntime) -> Result<(), Fail> {
     let charger = Charger::new(5, 1_320_500_000, 0).ok_or("no charger")?;
     assert_eq!(rt; ask(&Roster::new(&[charger])?, &REACH).map(label), Some(5));
-    assert!(rt; Charger::new(5, 2_000_000_000_001, 0).is_none());
+    assert_eq!(rt; Charger::new(5, 2_000_000_000_001, 0), None);
     let gateway = Reach {
         x: span(0, 5_000_000_000),
         y: span(0, 0),
