@@ -1,29 +1,26 @@
 -- What is written is read again. Assumes nothing.
-use Rattle.std.proofs.Common.{◌≡◌, ℕ, ◌+◌, ◌^◌, ◌<◌, ◌≤◌, false, List, [], ◌∷◌, map, length, get_or, take, drop, is_some, IfOk, Some, None, Ok, Err, Option, Result, sym, refl, ap, ◌∙◌, subst, arith}
+use Rattle.std.proofs.Common.{◌≡◌, ℕ, ◌+◌, ◌^◌, ◌<◌, ◌≤◌, false, List, [], ◌∷◌, map, length, get_or, take, drop, is_some, Some, None, Option, sym, refl, ap, ◌∙◌, subst, arith}
 use lib.ListN.{length-map}
 use Rattle.std.proofs.ByRecursion.{All-push}
 use Rattle.std.proofs.lemmas.List.{take_at, take_all, take_more}
-use Rattle.std.proofs.lemmas.Bool.{cond_both, leb-true, true≢false}
+use Rattle.std.proofs.lemmas.Bool.{cond_both, true≢false}
 use Rattle.std.specs.List.{AllByRecursion}
 use Rattle.refusals.specs.Refusals.{Refusal}
-use Rattle.refusals.specs.Answers.{Answers}
-use Rattle.refusals.proofs.Checks.{all_hold}
 use Rattle.plates.specs.declared.plates.Plate.{Plate}
 use Rattle.plates.specs.Plates.{held}
 use Rattle.plates.proofs.PlateLaws.{held_made}
 use Rattle.claims.specs.declared.fixtures.Fixture.{Fixture}
 use Rattle.claims.specs.Things.{zero_fixture, fixture_refused, fixture_counted}
 use Rattle.floors.specs.Exactness.{Made, Writable, Reads}
-use Rattle.floors.proofs.Exact.{read_was_written, written_is_read}
+use Rattle.floors.proofs.Exact.{written_is_read}
 use Rattle.floors.proofs.ReadingBack.{length_file}
-use Rattle.floor_writer.specs.declared.faults.WriteFault.{WriteFault}
-use Rattle.floor_writer.specs.Writing.{write_fault, file_length, write_checks, write_refused, file_of, bytes_after, Labelled, WrittenExactly}
+use Rattle.floor_writer.specs.Writing.{file_length, file_of, over, Labelled}
 
 none : (o : Option Refusal) → is_some o ≡ false → o ≡ None
 none None e = refl
 none (Some r) e = absurd (true≢false e)
 
-length_file_of : (plate : Plate) (rows : List Fixture) → length (file_of plate rows) ≡ file_length (length rows)
+pub length_file_of : (plate : Plate) (rows : List Fixture) → length (file_of plate rows) ≡ file_length (length rows)
 length_file_of plate rows = length_file (held plate) (map fixture_counted rows) ∙ ap file_length (length-map rows fixture_counted)
 
 -- what a row counts as can be made
@@ -45,28 +42,13 @@ labels_more rows i h before here =
 pub labels_all : (rows : List Fixture) (i : ℕ) → length rows ≤ i → AllByRecursion Labelled (take i rows) → AllByRecursion Labelled rows
 labels_all rows i h labels = subst (AllByRecursion Labelled) (take_all i rows h) labels
 
--- from what the writer answers and leaves
-pub written_exactly : (plate : Plate) (rows : List Fixture) (bytes : List ℕ) (r : Result ℕ WriteFault) (after : List ℕ) → AllByRecursion Labelled rows
-    → Answers write_fault (write_refused (length rows) (length bytes)) (λ n. n ≡ file_length (length rows)) r
-    → after ≡ bytes_after r (file_of plate rows) bytes → WrittenExactly plate rows r after
-written_exactly plate rows bytes (Ok n) after labels a e =
+-- what is written is read again
+pub written_again : (plate : Plate) (rows : List Fixture) (out after : List ℕ) (n : ℕ) → AllByRecursion Labelled rows → length rows ≤ 1024
+    → n ≡ length (file_of plate rows) → after ≡ over (file_of plate rows) out → Reads (take n after) (held plate) (map fixture_counted rows)
+written_again plate rows out after n labels few long e =
     let counted = map fixture_counted rows in
     let same = length-map rows fixture_counted in
-    let few = leb-true (length rows) 1024 (all_hold (write_checks (length rows) (length bytes)) a.0).0 in
     let can : Writable (held plate) counted = record { plate_made = held_made plate; few = omega arith; rows_made = rows_made rows labels } in
     let file = file_of plate rows in
-    let is : take n after ≡ file = ap (take n) e ∙ take_at file (drop (length file) bytes) n (length_file_of plate rows ∙ sym a.1) in
-    record { read_again = subst (λ b. Reads b (held plate) counted) (sym is) (written_is_read (held plate) counted can); only = read_was_written }
-written_exactly plate rows bytes (Err fault) after labels a e = record { read_again = tt; only = read_was_written }
-
--- the answer is the length of the file
-pub written_length : (plate : Plate) (rows : List Fixture) (bytes : ℕ) (r : Result ℕ WriteFault)
-    → Answers write_fault (write_refused (length rows) bytes) (λ n. n ≡ file_length (length rows)) r
-    → Answers write_fault (write_refused (length rows) bytes) (λ n. n ≡ length (file_of plate rows)) r
-written_length plate rows bytes (Ok n) a = (a.0, a.1 ∙ sym (length_file_of plate rows))
-written_length plate rows bytes (Err fault) a = a
-
--- the file has room in the bytes
-pub written_room : (count bytes : ℕ) (r : Result ℕ WriteFault) → Answers write_fault (write_refused count bytes) (λ n. n ≡ file_length count) r → IfOk r (λ n. n ≤ bytes)
-written_room count bytes (Ok n) a = omega (arith, a.1, leb-true (file_length count) bytes (all_hold (write_checks count bytes) a.0).1.0)
-written_room count bytes (Err fault) a = tt
+    let is : take n after ≡ file = ap (take n) e ∙ take_at file (drop (length file) out) n (sym long) in
+    subst (λ b. Reads b (held plate) counted) (sym is) (written_is_read (held plate) counted can)

@@ -1,17 +1,22 @@
 -- What one write after another leaves. Assumes nothing.
-use Rattle.std.proofs.Common.{◌≡◌, ℕ, zero, suc, ◌+◌, ◌-◌, ◌*◌, ◌<◌, ◌≤◌, min, List, [], ◌∷◌, ◌++◌, length, get_or, take, drop, replicate, sym, refl, ap, ◌∙◌, ⊎_elim, add-zero, arith, length-append, take-add}
+use Rattle.std.proofs.Common.{◌≡◌, ℕ, zero, suc, ◌+◌, ◌-◌, ◌*◌, ◌<◌, ◌≤◌, List, [], ◌∷◌, ◌++◌, map, length, get_or, take, drop, replicate, sym, refl, ap, ◌∙◌, add-zero, arith, length-append, take-add}
 use Rattle.std.proofs.lemmas.List.FromFn.{length-range_with_len, map-range_with_len_more}
 use Rattle.std.proofs.lemmas.List.Edits.{paste_all, paste-paste}
-use Rattle.std.proofs.lemmas.List.{append_assoc, append-nil, take_more, flat_map_more, take-replicate, drop-replicate, length-take-le, take_at, drop_all, take-append-drop, take_all, drop_at, drop-drop, length-drop, map-id}
-use Rattle.std.proofs.lemmas.Bool.{cases_lt}
+use Rattle.std.proofs.lemmas.List.{length-map, take-map, drop-map, length-take, append_assoc, append-nil, take_more, flat_map_more, take-replicate, drop-replicate, length-take-le, take_at, drop_all, take-append-drop, drop_at, drop-drop, map-id}
 use Rattle.std.specs.List.{range_with_len, flat_map}
 use lib.Seq.{paste}
 use Rattle.plates.specs.declared.fields.PlateFields.{PlateFields}
 use Rattle.claims.specs.declared.fixtures.Fixture.{Fixture}
 use Rattle.floors.specs.Bytes.{written, sealed, le_bytes, checksum, i64_bytes}
-use Rattle.floors.specs.Blocks.{head_bytes, body, fixture_record, fixture_block}
+use Rattle.floors.specs.Blocks.{head_bytes, body, fixture_record}
 use Rattle.floors.specs.Floors.{floor_block, floor_file, blocks_for}
+use Rattle.floors.specs.declared.layout.BlockKind.TheVariants.{Fixtures}
+use Rattle.floors.specs.Kinds.{block_kind}
+use Rattle.plates.specs.Fields.{numbers_of}
+use Rattle.claims.specs.Things.{fixture_counted}
+use Rattle.floor_writer.specs.Writing.{rows_in, records_in}
 use Rattle.floors.proofs.Pieces.{length_joined}
+use Rattle.floors.proofs.Records.{length_i64, length_fixture}
 use Rattle.floors.proofs.ReadingBack.{length_file}
 
 -- a write that goes on where another ended
@@ -77,24 +82,36 @@ framed i count rs b0 b1 b2 h e0 e1 e2 =
     ∙ ap (λ l. rs ++ take (502 - n) l) (drop_at rs zeros n refl) ∙ ap (λ l. rs ++ l) (take-replicate (502 - n) (504 - n) 0 (omega arith)) in
     ap (take 510) all ∙ ap (λ l. head ++ l) cut
 
--- a block from cleared to sealed
-pub block_on : (i count : ℕ) (rs block b0 b1 b2 b3 : List ℕ) → length block ≡ 512 → length rs ≤ 502
-    → b0 ≡ replicate (length block) 0 → b1 ≡ written b0 0 (head_bytes i count) → b2 ≡ written b1 8 rs → b3 ≡ sealed (take 510 b2) → b3 ≡ sealed (body i count rs)
-block_on i count rs block b0 b1 b2 b3 len h e0 e1 e2 e3 =
-    e3 ∙ ap sealed (framed i count rs b0 b1 b2 h (e0 ∙ ap (λ n. replicate n 0) len) e1 e2)
+-- ---- the rows and the records of one block
 
--- the rows of one block
-pub part_is : {X : Type 0} (xs : List X) (from to : ℕ) → from ≤ length xs → to ≡ min (from + 13) (length xs) → take (to - from) (drop from xs) ≡ take 13 (drop from xs)
-part_is xs from to h e =
-    ⊎_elim
-    (λ (l : from + 13 < length xs). let q : to - from ≡ 13 = omega arith in ap (λ n. take n (drop from xs)) q)
-    (λ (g : length xs ≤ from + 13).
-    take_all (to - from) (drop from xs) (simp length-drop (omega arith)) ∙ sym (take_all 13 (drop from xs) (simp length-drop (omega arith))))
-    (cases_lt (from + 13) (length xs))
+rows_counted : (rows : List Fixture) (i : ℕ) → map fixture_counted (rows_in rows i) ≡ rows_in (map fixture_counted rows) i
+rows_counted rows zero = refl
+rows_counted rows (suc i) = sym (ap (take 13) (drop-map fixture_counted (13 * i) rows) ∙ take-map fixture_counted 13 (drop (13 * i) rows))
 
-pub later_block : (plate : PlateFields) (fs : List Fixture) (i : ℕ) → 0 < i → floor_block plate fs i ≡ fixture_block i (take 13 (drop (13 * (i - 1)) fs))
-later_block plate fs zero h = let w : ⊥ = omega arith in absurd w
-later_block plate fs (suc m) h = let e : m ≡ suc m - 1 = omega arith in ap (λ k. fixture_block (suc m) (take 13 (drop (13 * k) fs))) e
+pub later_records : (plate : PlateFields) (rows : List Fixture) (i : ℕ) → Fixtures ≡ block_kind i
+    → flat_map fixture_record (map fixture_counted (rows_in rows i)) ≡ records_in plate (map fixture_counted rows) i
+later_records plate rows zero h = cc
+later_records plate rows (suc i) h = ap (flat_map fixture_record) (rows_counted rows (suc i))
+
+records_fit : (plate : PlateFields) (rows : List Fixture) (i : ℕ) → length (records_in plate rows i) ≤ 502
+records_fit plate rows zero = let n = length_joined i64_bytes 8 length_i64 (numbers_of plate) in omega (arith, n)
+records_fit plate rows (suc i) =
+    let n = length_joined fixture_record 36 length_fixture (rows_in rows (suc i)) in
+    omega (arith, n, length-take {A = Fixture})
+
+block_is : (plate : PlateFields) (rows : List Fixture) (i : ℕ) → sealed (body i (length (rows_in rows i)) (records_in plate rows i)) ≡ floor_block plate rows i
+block_is plate rows zero = refl
+block_is plate rows (suc i) = refl
+
+-- a block from zeros to its checksum
+pub block_on : (plate : PlateFields) (rows : List Fixture) (i : ℕ) (b0 b1 b2 b3 : List ℕ)
+    → b0 ≡ replicate 512 0 → b1 ≡ written b0 0 (head_bytes i (length (rows_in rows i))) → b2 ≡ written b1 8 (records_in plate (map fixture_counted rows) i) → b3 ≡ sealed (take 510 b2)
+    → b3 ≡ floor_block plate (map fixture_counted rows) i
+block_on plate rows i b0 b1 b2 b3 e0 e1 e2 e3 =
+    let counted = map fixture_counted rows in
+    let rs = records_in plate counted i in
+    let many : length (rows_in rows i) ≡ length (rows_in counted i) = sym (length-map (rows_in rows i) fixture_counted) ∙ ap length (rows_counted rows i) in
+    e3 ∙ ap sealed (framed i (length (rows_in rows i)) rs b0 b1 b2 (records_fit plate counted i) e0 e1 e2) ∙ ap (λ n. sealed (body i n rs)) many ∙ block_is plate counted i
 
 -- one more block of the file
 pub blocks_more : (g : ℕ → List ℕ) → ((i : ℕ) → length (g i) ≡ 512) → (d : List ℕ) (k : ℕ) (b : List ℕ) → 512 * k + 512 ≤ length d
@@ -112,12 +129,6 @@ blocks_more g sized d k b h e =
     let more : flat_map g (range_with_len 0 (k + 1)) ≡ front ++ g k = ap (flat_map g) counted ∙ sym (flat_map_more g [] (range_with_len 0 k) k) in
     ap (λ l. l ++ (g k ++ drop (512 * k + 512) b)) t ∙ ap (λ l. front ++ (g k ++ l)) r
     ∙ sym (append_assoc front (g k) (drop (512 * (k + 1)) d)) ∙ ap (λ l. l ++ drop (512 * (k + 1)) d) (sym more)
-
--- a block in its place
-pub put_at : (out part block : List ℕ) (at k : ℕ) → k ≡ 512 → part ≡ block → take at out ++ (part ++ drop k (drop at out)) ≡ take at out ++ (block ++ drop (at + 512) out)
-put_at out part block at k e p =
-    ap (λ n. take at out ++ (part ++ drop n (drop at out))) e ∙ ap (λ l. take at out ++ (l ++ drop 512 (drop at out))) p
-    ∙ ap (λ l. take at out ++ (block ++ l)) (drop-drop 512 at out)
 
 -- all blocks
 pub file_on : (plate : PlateFields) (rows : List Fixture) (out b : List ℕ) (k : ℕ) → k ≡ blocks_for (length rows)

@@ -1,12 +1,15 @@
 -- What writing answers and leaves, and that what is written is read again. Assumes nothing.
-use Rattle.std.specs.Prelude.{ℕ, ◌*◌, ◌^◌, ◌<◌, Bool, List, [], ◌∷◌, ◌++◌, map, length, take, drop, IfOk, Ok, Err, codes, Option, Result, nat_le}
+use Rattle.std.specs.Prelude.{ℕ, zero, suc, ◌*◌, ◌^◌, ◌<◌, Bool, List, [], ◌∷◌, ◌++◌, map, length, take, drop, IfOk, Ok, Err, codes, Option, Result, nat_le}
 use Rattle.refusals.specs.declared.layers.Layer.TheVariants.{Thing, Block}
 use Rattle.refusals.specs.Refusals.{Refusal}
 use Rattle.refusals.specs.Answers.{first_of}
+use Rattle.std.specs.List.{flat_map}
+use Rattle.plates.specs.declared.fields.PlateFields.{PlateFields}
 use Rattle.plates.specs.declared.plates.Plate.{Plate}
 use Rattle.plates.specs.Plates.{held}
 use Rattle.claims.specs.declared.fixtures.Fixture.{Fixture}
 use Rattle.claims.specs.Things.{fixture_counted}
+use Rattle.floors.specs.Blocks.{plate_record, fixture_record}
 use Rattle.floors.specs.Floors.{blocks_for, floor_file}
 use Rattle.floors.specs.Exactness.{Reads, ReadWasWritten}
 use Rattle.floor_writer.specs.declared.faults.WriteFault.{WriteFault}
@@ -38,6 +41,16 @@ write_refused count bytes = first_of (write_checks count bytes)
 -- The file of a plate and rows: each row stands as the fixture that it counts as.
 abbrev pub file_of : Plate → List Fixture → List ℕ
 file_of plate rows = floor_file (held plate) (map fixture_counted rows)
+
+-- the rows of block i: none in the plate's, which is block 0, and then 13 in each
+abbrev pub rows_in : List Fixture → ℕ → List Fixture
+rows_in rows zero = []
+rows_in rows (suc i) = take 13 (drop (13 * i) rows)
+
+-- the records of block i
+abbrev pub records_in : PlateFields → List Fixture → ℕ → List ℕ
+records_in fields rows zero = plate_record fields
+records_in fields rows (suc i) = flat_map fixture_record (rows_in rows (suc i))
 
 -- a file over the first of some bytes
 abbrev pub over : List ℕ → List ℕ → List ℕ

@@ -1,126 +1,139 @@
 // One block: its head, its records, zeros, and its checksum.
-ghost use Rattle.std.specs.Prelude.{◌≡◌, ◌+◌, ◌*◌, ◌<◌, ◌≤◌, map, length, take, replicate};
+ghost use Rattle.std.specs.Prelude.{◌≡◌, ◌+◌, ◌-◌, ◌*◌, ◌≤◌, map, length, take};
 ghost use Rattle.std.specs.List.{flat_map};
 ghost use Rattle.claims.specs.Things.{fixture_counted};
-ghost use Rattle.floors.specs.Bytes.{le_bytes, i64_bytes, sealed, written};
-ghost use Rattle.floors.specs.Blocks.{head_bytes, plate_record, fixture_record, plate_block, fixture_block};
+ghost use Rattle.plates.specs.Plates.{held};
+ghost use Rattle.floors.specs.Bytes.{i64_bytes, sealed, written};
+ghost use Rattle.floors.specs.Blocks.{head_bytes, plate_record, fixture_record};
+ghost use Rattle.floors.specs.Floors.{floor_block};
+ghost use Rattle.floor_writer.specs.Writing.{rows_in, records_in};
 
-use claims::Fixture;
-use floors::sum_of_words;
-use plates::PlateFields;
-
-// Where the first record of a block begins, how many bytes a fixture's record takes, and where the checksum stands.
-const FIRST_RECORD: usize = 8;
-
-const FIXTURE_RECORD: usize = 36;
-
-const CHECKSUM: usize = 510;
+use claims::{Fixture, Row};
+use floors::{
+    BLOCK, BlockKind, CHECKSUM, FIRST_RECORD, FIXTURE_RECORD, MOST_IN_BLOCK, sum_of_words,
+};
+use plates::{Plate, PlateFields};
 
 // Writes bytes into others from `at` on.
-fn put(bytes: &mut [u8], at: usize, new: &[u8])
+#[tactic(auto, using(std::proofs::lemmas::Slice::overwrites, std::proofs::lemmas::Grind::common_steps))]
+pub(crate) fn put(bytes: &mut [u8], at: usize, new: &[u8])
     requires { at + length new.now ≤ length bytes.old }
     ensures { bytes.new ≡ written bytes.old at new.now }
 {
     bytes[at..at + new.len()].copy_from_slice(new);
 }
 
-// Writes an unsigned number of 32 bits from `at` on.
-fn put_u32(bytes: &mut [u8], at: usize, number: u32)
-    requires { at + 4 ≤ length bytes.old }
-    ensures { bytes.new ≡ written bytes.old at (le_bytes 4 number) }
-{
-    put(bytes, at, &number.to_le_bytes());
-}
-
 // Writes a signed number from `at` on.
-fn put_i64(bytes: &mut [u8], at: usize, value: i64)
-    requires { at + 8 ≤ length bytes.old }
-    ensures { bytes.new ≡ written bytes.old at (i64_bytes value) }
+fn put_number(block: &mut [u8; BLOCK], at: usize, number: i64)
+    requires { at + 8 ≤ 512 }
+    ensures { block.new ≡ written block.old at (i64_bytes number) }
 {
-    put(bytes, at, &value.to_le_bytes());
+    put(block, at, &number.to_le_bytes());
 }
 
 // The head of a block: its kind, its count, two zeros, and its number.
 fn head_bytes(number: usize, count: u8) -> [u8; 8]
-    requires { number < 80 }
     ensures { result ≡ head_bytes number count }
 {
-    let kind = if number == 0 { 1 } else { 2 };
-    let [n0, n1, n2, n3] = (number as u32).to_le_bytes();
-    [kind, count, 0, 0, n0, n1, n2, n3]
-}
-
-// Sets every byte to 0.
-fn clear(block: &mut [u8])
-    ensures { block.new ≡ replicate (length block.old) 0 }
-{
-    for byte in block.iter_mut() {
-        *byte = 0;
-    }
+    let [n0, n1, n2, n3, ..] = number.to_le_bytes();
+    [BlockKind::of(number).number(), count, 0, 0, n0, n1, n2, n3]
 }
 
 // Writes a fixture's record from `at` on.
-fn put_fixture(block: &mut [u8], at: usize, fixture: &Fixture)
-    requires { at + 36 ≤ length block.old }
+fn put_fixture(block: &mut [u8; BLOCK], at: usize, fixture: &Fixture)
+    requires { at + 36 ≤ 512 }
     ensures { block.new ≡ written block.old at (fixture_record fixture.now) }
 {
-    put_u32(block, at, fixture.label);
-    put_i64(block, at + 4, fixture.x.low);
-    put_i64(block, at + 12, fixture.x.high);
-    put_i64(block, at + 20, fixture.y.low);
-    put_i64(block, at + 28, fixture.y.high);
+    put(block, at, &fixture.label.to_le_bytes());
+    put_number(block, at + 4, fixture.x.low);
+    put_number(block, at + 12, fixture.x.high);
+    put_number(block, at + 20, fixture.y.low);
+    put_number(block, at + 28, fixture.y.high);
 }
 
-// Writes the records of fixtures, each row as the fixture that it counts as.
-fn put_fixtures(block: &mut [u8], rows: &[Fixture])
-    requires { 8 + 36 * length rows.now ≤ length block.old }
+// Writes a row's record, as that of the fixture that it counts as, from `at` on.
+fn put_row(block: &mut [u8; BLOCK], at: usize, row: &Fixture)
+    requires { at + 36 ≤ 512 }
+    ensures { block.new ≡ written block.old at (fixture_record (fixture_counted row.now)) }
+{
+    put_fixture(block, at, &row.counted());
+}
+
+// Writes the records of rows.
+fn put_fixtures(block: &mut [u8; BLOCK], rows: &[Fixture])
+    requires { length rows.now ≤ 13 }
     ensures { block.new ≡ written block.old 8 (flat_map fixture_record (map fixture_counted rows.now)) }
 {
-    for j in 0..rows.len() {
-        put_fixture(block, FIRST_RECORD + FIXTURE_RECORD * j, &rows[j].counted());
+    for (j, row) in rows.iter().enumerate() {
+        put_row(block, FIRST_RECORD + FIXTURE_RECORD * j, row);
     }
 }
 
 // Writes a plate's record.
-fn put_plate(block: &mut [u8], fields: &PlateFields)
-    requires { 80 ≤ length block.old }
-    ensures { block.new ≡ written block.old 8 (plate_record fields.now) }
+fn put_plate(block: &mut [u8; BLOCK], fields: PlateFields)
+    ensures { block.new ≡ written block.old 8 (plate_record fields) }
 {
-    let numbers = fields.numbers();
-    for k in 0..9usize {
-        put_i64(block, FIRST_RECORD + 8 * k, numbers[k]);
+    let numbers: [i64; 9] = fields.into();
+    for (k, number) in numbers.iter().enumerate() {
+        put_number(block, FIRST_RECORD + 8 * k, *number);
     }
 }
 
 // Writes the checksum of the bytes before it.
-fn seal(block: &mut [u8])
-    requires { length block.old ≡ 512 }
+fn seal(block: &mut [u8; BLOCK])
     ensures { block.new ≡ sealed (take 510 block.old) }
 {
     let sum = sum_of_words(&block[0..CHECKSUM]);
     put(block, CHECKSUM, &sum.wrapping_neg().to_le_bytes());
 }
 
-// Writes block 0.
-pub(crate) fn write_plate(block: &mut [u8], fields: &PlateFields)
-    requires { length block.old ≡ 512 }
-    ensures { block.new ≡ plate_block fields.now }
-{
-    clear(block);
-    put(block, 0, &head_bytes(0, 0));
-    put_plate(block, fields);
-    seal(block);
+// What a file holds: a plate, and rows of which each stands as the fixture that it counts as.
+#[derive(Clone, Copy)]
+pub(crate) struct Contents<'a> {
+    pub(crate) plate: Plate,
+    pub(crate) rows: &'a [Fixture],
 }
 
-// Writes a block of fixtures.
-pub(crate) fn write_fixtures(block: &mut [u8], number: usize, rows: &[Fixture])
-    requires whole { length block.old ≡ 512 }
-    requires few { number < 80 }
-    requires fits { length rows.now ≤ 13 }
-    ensures { block.new ≡ fixture_block number (map fixture_counted rows.now) }
-{
-    clear(block);
-    put(block, 0, &head_bytes(number, rows.len() as u8));
-    put_fixtures(block, rows);
-    seal(block);
+impl Contents<'_> {
+    // The rows of block `number`; the plate's has none.
+    fn rows_in(&self, number: usize) -> &[Fixture]
+        requires { 13 * (number - 1) ≤ length self.now.rows.now }
+        ensures { result.now ≡ rows_in self.now.rows.now number }
+    {
+        match BlockKind::of(number) {
+            BlockKind::Plate => &[],
+            BlockKind::Fixtures => {
+                let from = MOST_IN_BLOCK * (number - 1);
+                let to = (from + MOST_IN_BLOCK).min(self.rows.len());
+                &self.rows[from..to]
+            }
+        }
+    }
+
+    // Writes the records of block `number`.
+    fn put_records(&self, block: &mut [u8; BLOCK], number: usize)
+        requires { 13 * (number - 1) ≤ length self.now.rows.now }
+        ensures { block.new ≡ written block.old 8 (records_in (held self.now.plate) (map fixture_counted self.now.rows.now) number) }
+    {
+        match BlockKind::of(number) {
+            BlockKind::Plate => put_plate(block, self.plate.fields()),
+            BlockKind::Fixtures => put_fixtures(block, self.rows_in(number)),
+        }
+    }
+
+    // Block `number` of the file.
+    pub(crate) fn block(&self, number: usize) -> [u8; BLOCK]
+        requires { 13 * (number - 1) ≤ length self.now.rows.now }
+        ensures { result ≡ floor_block (held self.now.plate) (map fixture_counted self.now.rows.now) number }
+    {
+        let mut block = [0; BLOCK];
+        put(
+            &mut block,
+            0,
+            &head_bytes(number, self.rows_in(number).len() as u8),
+        );
+        self.put_records(&mut block, number);
+        seal(&mut block);
+        block
+    }
 }

@@ -20,7 +20,7 @@ pub loop-j-preserved : goal.loop-j-preserved
 loop-j-preserved c =
     let j = c.loop-j.j in
     let b = c.loop-j.block in
-    let one : c.put_fixture.new.block ≡ written b (8 + 36 * j) (fixture_record (fixture_counted (get_or c.args.rows.now j zero_fixture))) = cc in
+    let one : c.put_row.new.block ≡ written b (8 + 36 * j) (fixture_record (fixture_counted (get_or c.args.rows.now j zero_fixture))) = cc in
     one
     ∙ records_more (λ f. fixture_record (fixture_counted f)) 36 (λ f. length_fixture (fixture_counted f)) c.args.block.now 8 c.args.rows.now j zero_fixture b
     (omega arith) (omega arith) c.loop-j.invariant

@@ -1,8 +1,7 @@
 use Rattle.std.proofs.Common.{◌≡◌, take}
 use Rattle.std.specs.List.{flat_map}
-use Rattle.plates.specs.Fields.{numbers_of}
 use Rattle.floors.specs.Bytes.{written, i64_bytes}
 use Rattle.floor_writer.proofs.blocks.put_plate.Given as goal
 
 abbrev pub invariant-loop-k : goal.invariant-loop-k
-invariant-loop-k l = l.block ≡ written l.initial.block 8 (flat_map i64_bytes (take l.k (numbers_of l.fields)))
+invariant-loop-k l = l.block ≡ written l.initial.block 8 (flat_map i64_bytes (take l.k l.number-items))
