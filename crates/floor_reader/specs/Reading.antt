@@ -3,20 +3,19 @@ use Rattle.std.specs.Prelude.{◌≡◌, ℕ, ◌≤◌, List, ◌++◌, length,
 use Rattle.plates.specs.declared.fields.PlateFields.{PlateFields}
 use Rattle.plates.specs.Plates.{held}
 use Rattle.claims.specs.declared.fixtures.Fixture.{Fixture}
-use Rattle.floors.specs.declared.faults.Place.{Place}
 use Rattle.floors.specs.declared.faults.BlockFault.{BlockFault}
 use Rattle.floors.specs.Floors.{plate_in, fixture_count, fixtures_in, floor_file}
 use Rattle.floors.specs.Exactness.{Writable}
 use Rattle.floor_reader.specs.declared.reading.Floor.{Floor}
 
--- a result, with the place of its fault beside it
-abbrev pub placed : {X E : Type 0} → Place → Result X E → Result X (Place × E)
-placed p (Ok x) = Ok x
-placed p (Err e) = Err (p, e)
-
 -- the floor has the plate that the bytes hold, and as many fixtures
 abbrev pub Holds : List ℕ → Floor → Type 0
 Holds bytes floor = (held floor.plate ≡ plate_in bytes) × (floor.count ≡ fixture_count bytes)
+
+-- the bytes are the floor file of the plate and the fixtures that they hold, and these can be written
+pub record Written (bytes : List ℕ) : Type 0 where
+  pub writable : Writable (plate_in bytes) (fixtures_in bytes)
+  pub same : bytes ≡ floor_file (plate_in bytes) (fixtures_in bytes)
 
 -- The table afterwards: the fixtures and then its further rows as they were, or after a refusal all as it was.
 abbrev pub table_after : {X : Type 0} → Result X BlockFault → List ℕ → List Fixture → List Fixture

@@ -5,20 +5,13 @@ ghost use Rattle.refusals.specs.Answers.{Answers};
 ghost use Rattle.plates.specs.Plates.{held};
 ghost use Rattle.floors.specs.Faults.{block_fault};
 ghost use Rattle.floors.specs.Floors.{block_in, refused_in, floor_refused, plate_in, row_in, row_offset, read_refused};
-ghost use Rattle.floor_reader.specs.Reading.{Holds, table_after, ReadExactly};
+ghost use Rattle.floor_reader.specs.Reading.{Holds, Written, table_after, ReadExactly};
 
-use crate::records::{FIRST_RECORD, FIXTURE_RECORD, fixture_block, fixture_row, plate_block};
+use crate::blocks::Block;
+use crate::records::fixture_row;
 use claims::Fixture;
-use floors::BlockFault;
+use floors::{BLOCK, BlockFault, FIRST_RECORD, FIXTURE_RECORD, MOST_BLOCKS, MOST_IN_BLOCK};
 use plates::Plate;
-
-// The bytes of a block, and how many blocks a file has at most.
-const BLOCK: usize = 512;
-
-const MOST_BLOCKS: usize = 80;
-
-// How many fixtures stand in each block but the last.
-const IN_BLOCK: usize = 13;
 
 // What was read of a floor: its plate, and how many fixtures are now in the table.
 #[derive(Clone, Copy)]
@@ -27,45 +20,31 @@ pub struct Floor {
     pub count: usize,
 }
 
-// Block `number` of the bytes.
-fn block_of(bytes: &[u8], number: usize) -> &[u8]
-    requires { 512 * number + 512 ≤ length bytes.now }
-    ensures { (result.now ≡ block_in bytes.now number) × (length result.now ≡ 512) }
-{
-    &bytes[BLOCK * number..BLOCK * number + BLOCK]
-}
-
-// The plate of block 0.
-fn plate_in(bytes: &[u8]) -> Result<Plate, BlockFault>
-    requires { 512 ≤ length bytes.now }
-    ensures { Answers block_fault (refused_in bytes.now 0) (λ p. held p ≡ plate_in bytes.now) result }
-{
-    plate_block(block_of(bytes, 0), bytes.len() / BLOCK)
-}
-
-// How many fixtures block `number` holds.
-fn count_in(bytes: &[u8], number: usize) -> Result<usize, BlockFault>
-    requires past { 0 < number }
-    requires few { number < 80 }
-    requires there { 512 * number + 512 ≤ length bytes.now }
-    ensures { Answers block_fault (refused_in bytes.now number) (λ count. (count ≡ slice_index (block_in bytes.now number) 1) × (count ≤ 13)) result }
-{
-    fixture_block(block_of(bytes, number), bytes.len() / BLOCK, number)
-}
-
 // Checks every block, and answers the plate and how many fixtures there are.
 fn check_floor(bytes: &[u8]) -> Result<Floor, BlockFault>
-    ensures { Answers block_fault (floor_refused bytes.now) (Holds bytes.now) result }
+    ensures { Answers block_fault (floor_refused bytes.now) (λ floor. Holds bytes.now floor × Written bytes.now) result }
 {
-    let blocks = bytes.len() / BLOCK;
-    if bytes.len() % BLOCK != 0 || blocks < 1 || blocks > MOST_BLOCKS {
+    let (blocks, rest) = bytes.as_chunks::<BLOCK>();
+    let [first, others @ ..] = blocks else {
+        return Err(BlockFault::WrongLength);
+    };
+    if blocks.len() > MOST_BLOCKS || !rest.is_empty() {
         return Err(BlockFault::WrongLength);
     }
-    let plate = plate_in(bytes)?;
+    let first = Block {
+        bytes: first,
+        number: 0,
+        total: blocks.len(),
+    };
+    let plate = first.plate()?;
     let mut count = 0;
-    for number in 1..blocks {
-        let held = count_in(bytes, number)?;
-        count = IN_BLOCK * (number - 1) + held;
+    for (before, other) in others.iter().enumerate() {
+        let block = Block {
+            bytes: other,
+            number: before + 1,
+            total: blocks.len(),
+        };
+        count = MOST_IN_BLOCK * before + block.count()?;
     }
     Ok(Floor { plate, count })
 }
@@ -75,7 +54,7 @@ fn row_offset(k: usize) -> usize
     requires { k < 2 ^ 32 }
     ensures { result ≡ row_offset k }
 {
-    BLOCK + FIRST_RECORD + BLOCK * (k / IN_BLOCK) + FIXTURE_RECORD * (k % IN_BLOCK)
+    BLOCK + FIRST_RECORD + BLOCK * (k / MOST_IN_BLOCK) + FIXTURE_RECORD * (k % MOST_IN_BLOCK)
 }
 
 // Writes the first `count` fixtures of checked bytes into the table.
@@ -85,15 +64,19 @@ fn fill_table(bytes: &[u8], table: &mut [Fixture], count: usize)
     requires there { count ≤ 13 * (length bytes.now / 512 - 1) }
     ensures { table.new ≡ map (row_in bytes.now) (range_with_len 0 count) ++ drop count table.old }
 {
-    for k in 0..count {
-        table[k] = fixture_row(bytes, row_offset(k));
+    for (k, row) in table[..count].iter_mut().enumerate() {
+        *row = fixture_row(bytes, row_offset(k));
     }
 }
 
-// Checks the bytes and then fills the table.
-fn read_rows(bytes: &[u8], table: &mut [Fixture]) -> Result<Floor, BlockFault>
+// Reads a floor file into the first rows of a table, and answers its plate and how many fixtures it has. The other rows, and after a refusal all, are as they were.
+// The table is handed in, and the count is answered beside it, as nothing here takes memory while it runs.
+#[tactic(auto, using(crate::proofs::ReadLaws::reading), unfolding(floors::specs::Floors::fixtures_in))]
+pub fn read_floor(bytes: &[u8], table: &mut [Fixture]) -> Result<Floor, BlockFault>
     ensures answer { Answers block_fault (read_refused bytes.now (length table.old)) (Holds bytes.now) result }
     ensures table { table.new ≡ table_after result bytes.now table.old }
+    ensures room { IfOk result (λ floor. floor.count ≤ length table.old) }
+    ensures exact { ReadExactly bytes.now table.old result table.new }
 {
     let floor = check_floor(bytes)?;
     if floor.count > table.len() {
@@ -101,24 +84,4 @@ fn read_rows(bytes: &[u8], table: &mut [Fixture]) -> Result<Floor, BlockFault>
     }
     fill_table(bytes, table, floor.count);
     Ok(floor)
-}
-
-// The same, with the law that exactly what can be written is read.
-fn read_exactly(bytes: &[u8], table: &mut [Fixture]) -> Result<Floor, BlockFault>
-    ensures answer { Answers block_fault (read_refused bytes.now (length table.old)) (Holds bytes.now) result }
-    ensures table { table.new ≡ table_after result bytes.now table.old }
-    ensures room { IfOk result (λ floor. floor.count ≤ length table.old) }
-    ensures exact { ReadExactly bytes.now table.old result table.new }
-{
-    read_rows(bytes, table)
-}
-
-// Reads a floor file into the first rows of a table, and answers its plate and how many fixtures it has. The other rows, and after a refusal all, are as they were.
-pub fn read_floor(bytes: &[u8], table: &mut [Fixture]) -> Result<Floor, BlockFault>
-    ensures answer { Answers block_fault (read_refused bytes.now (length table.old)) (Holds bytes.now) result }
-    ensures table { table.new ≡ table_after result bytes.now table.old }
-    ensures room { IfOk result (λ floor. floor.count ≤ length table.old) }
-    ensures exact { ReadExactly bytes.now table.old result table.new }
-{
-    read_exactly(bytes, table)
 }

@@ -1,9 +1,11 @@
 -- The first place at which bytes depart from those wanted. Assumes nothing.
-use Rattle.std.proofs.Common.{◌≡◌, ℕ, zero, suc, ◌+◌, ◌-◌, ◌*◌, ◌<◌, ◌≤◌, min, max, true, false, cond, eqb, List, [], ◌∷◌, ◌++◌, length, get_or, take, drop, replicate, Some, None, Option, sym, refl, ap, ◌∙◌, ⊎_elim, add-zero, arith, length-drop, take-add}
+use Rattle.std.proofs.Common.{◌≡◌, ℕ, zero, suc, ◌+◌, ◌-◌, ◌*◌, ◌≤◌, min, max, true, false, cond, eqb, List, [], ◌∷◌, ◌++◌, length, get_or, take, drop, replicate, Some, None, Option, sym, refl, ap, ◌∙◌, ⊎_elim, add-zero, add_assoc, Bool, not, arith, length-drop, take-add}
 use Rattle.std.proofs.lemmas.Bool.{eq-eqb, eqb-true, cases_Bool, ne_eqb}
-use Rattle.std.proofs.lemmas.List.{length-take-le, drop_more}
+use Rattle.std.proofs.lemmas.List.{length-take-le}
 use Rattle.floors.specs.Bytes.{departs}
-use Rattle.std.specs.Option.{option_or}
+use Rattle.std.specs.Option.{option_or, option_map}
+use Rattle.std.specs.List.{slice_range, position, position_from}
+use Rattle.std.proofs.lemmas.Iterator.Adapters.{position_from-zero}
 use Rattle.floors.specs.Blocks.{head_bytes, body, wanted_body, nearest_count, used_bytes}
 
 -- bytes do not depart from themselves
@@ -34,22 +36,17 @@ departs_none k (w ∷ ws) (b ∷ bs) h e =
     (λ f. let s : Some k ≡ None = rw f at e in let z : ◌≡◌ {A = ℕ} 0 1 = cc in let w : ⊥ = omega arith in absurd w)
     (cases_Bool (eqb w b))
 
--- zeros that are wanted, one place on
-module _ (rest : List ℕ) (n k : ℕ) (inside : k < n) (long : n ≤ length rest) where
-  zeros_here : departs (8 + k) (replicate (n - k) 0) (take (n - k) (drop k rest))
-      ≡ cond (eqb 0 (get_or rest k 0)) (departs (8 + (k + 1)) (replicate (n - (k + 1)) 0) (take (n - (k + 1)) (drop (k + 1) rest))) (Some (8 + k))
-  zeros_here =
-      let e : n - k ≡ suc (n - (k + 1)) = omega arith in
-      let p : k < length rest = omega arith in
-      let a : 8 + k + 1 ≡ 8 + (k + 1) = omega arith in
-      rw (e, drop_more rest k 0, a)
+-- where zeros are wanted, the first byte that is not 0
+abbrev pub not_zero : ℕ → Bool
+not_zero b = not (eqb b 0)
 
-  pub zeros_on : get_or rest k 0 ≡ 0 → departs (8 + k) (replicate (n - k) 0) (take (n - k) (drop k rest))
-      ≡ departs (8 + (k + 1)) (replicate (n - (k + 1)) 0) (take (n - (k + 1)) (drop (k + 1) rest))
-  zeros_on z = zeros_here ∙ rw z
+zeros_from : (k i : ℕ) (bs : List ℕ) → departs (k + i) (replicate (length bs) 0) bs ≡ option_map (λ j. k + j) (position_from not_zero i bs)
+zeros_from k i [] = refl
+zeros_from k i (zero ∷ bs) = rw add_assoc (zeros_from k (i + 1) bs)
+zeros_from k i (suc b ∷ bs) = rw (ne_eqb 0 (suc b) (λ h. omega arith), ne_eqb (suc b) 0 (λ h. omega arith))
 
-  pub zeros_stop : (get_or rest k 0 ≡ 0 → ⊥) → departs (8 + k) (replicate (n - k) 0) (take (n - k) (drop k rest)) ≡ Some (8 + k)
-  zeros_stop z = zeros_here ∙ rw (ne_eqb 0 (get_or rest k 0) (λ e. z (sym e)))
+departs_zeros : (k n : ℕ) (bs : List ℕ) → length bs ≡ n → departs k (replicate n 0) bs ≡ option_map (λ j. k + j) (position not_zero bs)
+departs_zeros k n bs e = rw (← e) (rw add-zero at (zeros_from k 0 bs)) ∙ ap (option_map (λ j. k + j)) (sym (position_from-zero not_zero bs))
 
 -- a block departs from what is wanted in its head, or else past its records
 pub departs_body : (i count used : ℕ) (b : List ℕ) → length b ≡ 512 → used ≤ 502
@@ -79,25 +76,32 @@ used_small n zero count = omega arith
 used_small n (suc i) count =
     elim (eqb (i + 2) n) as (λ t. 36 * max (cond t 1 13) (min count (min 13 (1024 - 13 * i))) ≤ 502) [ true ↦ omega arith | false ↦ omega arith ]
 
--- the same of what is wanted of a block as found, by what its head gives
+-- a fault at the first of two places
+first : {X : Type 0} (f : ℕ → X) (a b : Option ℕ) (x : X) → option_map f a ≡ Some x → option_map f (option_or a b) ≡ Some x
+first f (Some k) b x e = e
+first f None b x e = absurd cc
+
+second : {X : Type 0} (f : ℕ → X) (a b : Option ℕ) → option_map f a ≡ None → option_map f (option_or a b) ≡ option_map f b
+second f (Some k) b e = absurd cc
+second f None b e = refl
+
+-- the same of what is wanted of a block as found: in its head, or else at the first unused byte that is not 0
 module _ (n i : ℕ) (b : List ℕ) (len : length b ≡ 512) where
-  by_head : (o : Option ℕ) → departs 0 (head_bytes i (nearest_count n i (get_or b 1 0))) (take 8 b) ≡ o
-      → let used = used_bytes i (nearest_count n i (get_or b 1 0)) in
-      departs 0 (wanted_body n i b) (take 510 b) ≡ option_or o (departs (8 + used) (replicate (502 - used) 0) (take (502 - used) (drop used (drop 8 b))))
-  by_head o e =
+  departs_wanted : let count = nearest_count n i (get_or b 1 0) in let used = used_bytes i count in
+      departs 0 (wanted_body n i b) (take 510 b)
+      ≡ option_or (departs 0 (head_bytes i count) (take 8 b)) (option_map (λ j. 8 + used + j) (position not_zero (slice_range (drop 8 b) used 502)))
+  departs_wanted =
       let count = nearest_count n i (get_or b 1 0) in
       let used = used_bytes i count in
-      departs_body i count used b len (used_small n i (get_or b 1 0))
-      ∙ ap (λ o. option_or o (departs (8 + used) (replicate (502 - used) 0) (take (502 - used) (drop used (drop 8 b))))) e
+      let small = used_small n i (get_or b 1 0) in
+      let l : length (slice_range (drop 8 b) used 502) ≡ 502 - used = length-take-le (502 - used) (drop used (drop 8 b)) (simp length-drop (omega arith)) in
+      departs_body i count used b len small ∙ ap (option_or (departs 0 (head_bytes i count) (take 8 b))) (departs_zeros (8 + used) (502 - used) (slice_range (drop 8 b) used 502) l)
 
-  pub wrong_head : (k : ℕ) → departs 0 (head_bytes i (nearest_count n i (get_or b 1 0))) (take 8 b) ≡ Some k
-      → Some k ≡ departs 0 (wanted_body n i b) (take 510 b)
-  wrong_head k e = sym (by_head (Some k) e)
+  pub wrong_head : {X : Type 0} (f : ℕ → X) (x : X) → option_map f (departs 0 (head_bytes i (nearest_count n i (get_or b 1 0))) (take 8 b)) ≡ Some x
+      → option_map f (departs 0 (wanted_body n i b) (take 510 b)) ≡ Some x
+  wrong_head f x e = ap (option_map f) departs_wanted ∙ first f _ _ x e
 
-  pub wrong_rest : departs 0 (head_bytes i (nearest_count n i (get_or b 1 0))) (take 8 b) ≡ None
-      → (used : ℕ) → used ≡ used_bytes i (nearest_count n i (get_or b 1 0)) → (rest : List ℕ) → rest ≡ drop 8 b
-      → (o : Option ℕ) → o ≡ departs (8 + used) (replicate (502 - used) 0) (take (502 - used) (drop used rest))
-      → o ≡ departs 0 (wanted_body n i b) (take 510 b)
-  wrong_rest e used eu rest er o eo =
-      eo ∙ ap (λ l. departs (8 + used) (replicate (502 - used) 0) (take (502 - used) (drop used l))) er
-      ∙ ap (λ u. departs (8 + u) (replicate (502 - u) 0) (take (502 - u) (drop u (drop 8 b)))) eu ∙ sym (by_head None e)
+  pub right_head : {X : Type 0} (f : ℕ → X) → option_map f (departs 0 (head_bytes i (nearest_count n i (get_or b 1 0))) (take 8 b)) ≡ None
+      → (rest : List ℕ) → rest ≡ drop 8 b → (used : ℕ) → used ≡ used_bytes i (nearest_count n i (get_or b 1 0))
+      → option_map f (departs 0 (wanted_body n i b) (take 510 b)) ≡ option_map f (option_map (λ j. 8 + used + j) (position not_zero (slice_range rest used 502)))
+  right_head f e rest er used eu = rw (er, eu) (ap (option_map f) departs_wanted ∙ second f _ _ e)

@@ -1,5 +1,5 @@
 -- A record that is read and written again is the same bytes, and one that is written is read as the same numbers. Assumes nothing.
-use Rattle.std.proofs.Common.{◌≡◌, ℕ, ◌+◌, ◌-◌, ◌*◌, ◌^◌, ◌<◌, ◌≤◌, List, ◌∷◌, ◌++◌, map, length, take, drop, ℤ, sym, refl, ap, ◌∙◌, ⊎_elim, add-zero, add_assoc, arith, lit<, length-take, get_or-drop, get_or-take, take-add, w64, SFits, to_z, of_z}
+use Rattle.std.proofs.Common.{◌≡◌, ℕ, ◌+◌, ◌-◌, ◌*◌, ◌^◌, ◌<◌, ◌≤◌, List, ◌++◌, map, length, take, drop, ℤ, sym, refl, ap, ◌∙◌, ⊎_elim, add-zero, add_assoc, arith, lit<, length-take, get_or-drop, get_or-take, take-add, w64, SFits, to_z, of_z}
 use Rattle.std.proofs.lemmas.Int.{of_z-to_z, to_z-of_z, ints}
 use Rattle.std.proofs.lemmas.List.{length-take-le, length-drop, drop-drop, drop-take, take-take, get_or_past}
 use Rattle.std.proofs.lemmas.Bool.{cases_lt}
@@ -48,17 +48,10 @@ module _ (bs : List ℕ) (octets : Octets bs) where
       a ∙ ap (λ l. take 4 (drop at bs) ++ l) (two at 4 8 24 ∙ ap (λ l. take 8 (drop (at + 4) bs) ++ l) (two at 12 8 16 ∙ ap (λ l. take 8 (drop (at + 12) bs) ++ l) (two at 20 8 8))) in
       five _ _ _ _ _ _ _ _ _ _ (le_part at 4 (omega arith)) (i64_part (at + 4) (omega arith)) (i64_part (at + 12) (omega arith)) (i64_part (at + 20) (omega arith)) (i64_part (at + 28) (omega arith)) ∙ sym whole
 
-  numbers_counted : (at : ℕ) → numbers_at bs at ≡ map (λ k. i64_at bs (at + 8 * k)) (range_with_len 0 9)
-  unfolding numbers_at
-  numbers_counted at = ap (λ a. i64_at bs a ∷ map (λ k. i64_at bs (at + 8 * k)) (range_with_len 1 8)) (sym (add-zero at))
-
-  numbers_again : (at : ℕ) → plate_record (plate_at bs at) ≡ flat_map i64_bytes (numbers_at bs at)
-  unfolding numbers_at
-  numbers_again at = refl
-
   pub plate_part : (at : ℕ) → at + 72 ≤ length bs → plate_record (plate_at bs at) ≡ take 72 (drop at bs)
+  unfolding numbers_at
   plate_part at h =
-      numbers_again at ∙ ap (flat_map i64_bytes) (numbers_counted at) ∙ joined_map i64_bytes (λ k. i64_at bs (at + 8 * k)) (range_with_len 0 9)
+      joined_map i64_bytes (λ k. i64_at bs (at + 8 * k)) (range_with_len 0 9)
       ∙ joined_same (λ k. i64_bytes (i64_at bs (at + 8 * k))) (λ k. take 8 (drop (at + 8 * k) bs)) 0 9 (λ k p q. i64_part (at + 8 * k) (omega arith))
       ∙ pieces bs 8 at 0 9 ∙ ap (λ a. take 72 (drop a bs)) (add-zero at)
 

@@ -1,6 +1,6 @@
 -- A block of the floor file: 512 bytes, of which the last two are the checksum of the others. Assumes nothing.
-use Rattle.std.specs.Prelude.{ℕ, zero, suc, ◌+◌, ◌-◌, ◌*◌, ◌%◌, min, max, cond, List, [], ◌∷◌, ◌++◌, length, take, drop, replicate, ℤ, Some, None, Option, ◌==◌, slice_index}
-use Rattle.std.specs.List.{flat_map}
+use Rattle.std.specs.Prelude.{ℕ, zero, suc, ◌+◌, ◌-◌, ◌*◌, ◌%◌, min, max, cond, List, ◌∷◌, ◌++◌, map, length, take, drop, replicate, ℤ, Some, None, Option, ◌==◌, slice_index}
+use Rattle.std.specs.List.{flat_map, range_with_len}
 use Rattle.std.specs.Option.{option_map}
 use Rattle.refusals.specs.Refusals.{Refusal}
 use Rattle.refusals.specs.Answers.{or_else}
@@ -49,7 +49,7 @@ fixture_block i rows = sealed (body i (length rows) (flat_map fixture_record row
 
 -- the nine numbers from a byte on
 unfoldable pub numbers_at : List ℕ → ℕ → List ℤ
-numbers_at b at = i64_at b at ∷ (i64_at b (at + 8) ∷ (i64_at b (at + 16) ∷ (i64_at b (at + 24) ∷ (i64_at b (at + 32) ∷ (i64_at b (at + 40) ∷ (i64_at b (at + 48) ∷ (i64_at b (at + 56) ∷ (i64_at b (at + 64) ∷ []))))))))
+numbers_at b at = map (λ k. i64_at b (at + 8 * k)) (range_with_len 0 9)
 
 -- the plate's fields from a byte on
 abbrev pub plate_at : List ℕ → ℕ → PlateFields

@@ -1,55 +1,92 @@
-use Rattle.std.proofs.Common.{◌≡◌, ◌+◌, ◌-◌, ◌*◌, ◌/◌, length, get_or, None, sym, refl, ap, ◌∙◌, ⊎_elim, zero-add, arith}
+use Rattle.std.proofs.Common.{◌≡◌, ◌+◌, ◌-◌, ◌*◌, ◌/◌, length, get_or, None, sym, refl, ap, ◌∙◌, zero-add, arith}
+use Rattle.std.proofs.lemmas.Bool.{eqb-true, eqb-false}
 use Rattle.std.proofs.lemmas.Result.{err_from_is_err_and}
 use Rattle.refusals.specs.Answers.{or_else}
-use Rattle.floors.specs.Blocks.{first_among}
-use Rattle.floors.specs.Floors.{refused_in, block_in, fixture_count}
+use Rattle.floors.specs.Blocks.{first_among, plate_at}
+use Rattle.floors.specs.Floors.{refused_in, fixture_count}
 use Rattle.floors.proofs.Firsts.{first_among_more}
 use Rattle.floors.proofs.Files.{Right, length_fault, floor_fault_at, floor_blocks, plate_count}
+use Rattle.floor_reader.proofs.ReadLaws.{first_long, other_long, first_refused, other_refused, first_is, other_is, written}
+use Rattle.floor_reader.proofs.reading.check_floor.Goals.{then-blocks-gt-MOST_BLOCKS-via-then-blocks-gt-MOST_BLOCKS, then-blocks-gt-MOST_BLOCKS-via-else-blocks-gt-MOST_BLOCKS+then-not-is_empty}
 use Rattle.floor_reader.proofs.reading.check_floor.Goals as goal
 
-pub returns-then-bytes-ne0 : goal.returns-then-bytes-ne0
-returns-then-bytes-ne0 c =
+pub returns-in_default : goal.returns-in_default
+returns-in_default c = length_fault c.args.bytes.now (λ r. omega arith)
+
+pub returns-then-blocks-gt-MOST_BLOCKS : goal.returns-then-blocks-gt-MOST_BLOCKS
+returns-then-blocks-gt-MOST_BLOCKS c =
     length_fault c.args.bytes.now
-    (λ r. ⊎_elim (λ a. a r.0) (λ b. ⊎_elim (λ l. omega arith) (λ g. omega arith) b) c.then-bytes-ne0.either)
+    (λ r. elim c.then-blocks-gt-MOST_BLOCKS.branch [
+      | then-blocks-gt-MOST_BLOCKS-via-then-blocks-gt-MOST_BLOCKS w ↦ omega arith
+      | then-blocks-gt-MOST_BLOCKS-via-else-blocks-gt-MOST_BLOCKS+then-not-is_empty w ↦ eqb-false _ 0 (sym w.is_empty.ensures ∙ w.if-not-is_empty.true) (omega arith)
+    ])
+
+pub invariant_of-first : goal.invariant_of-first
+invariant_of-first c =
+    let e = c.as_chunks.ensures in
+    record { whole = first_long c.args.bytes.now c.as_chunks.result.0.now e.front e.front_len (omega arith); inside = omega arith; few = omega arith }
 
 pub returns-in_err-plate : goal.returns-in_err-plate
 returns-in_err-plate c =
     let p = err_from_is_err_and c.from_residual.result c.from_residual.ensures.1 in
-    let right : Right c.args.bytes.now = (omega arith, omega arith, omega arith) in
-    rw (p.1, p.2) (floor_fault_at c.args.bytes.now right 0 _ refl c.in_err-plate.ensures (omega arith))
-
-pub loop-number-init : goal.loop-number-init
-loop-number-init c =
-    let right : Right c.args.bytes.now = (omega arith, omega arith, omega arith) in
-    let none = c.in_ok-plate.ensures.0 in
-    (ap (λ o. or_else o None) none, sym (plate_count c.args.bytes.now right none) ∙ sym (zero-add (get_or (block_in c.args.bytes.now 0) 1 0)))
-
-pub returns-in_err-held : goal.returns-in_err-held
-returns-in_err-held c =
-    let p = err_from_is_err_and c.from_residual-in_err-held.result c.from_residual-in_err-held.ensures.1 in
+    let e = c.as_chunks.ensures in
+    let none = eqb-true (length c.as_chunks.result.1.now) 0 (sym c.is_empty.ensures ∙ c.if-not-is_empty.false) in
     let right : Right c.args.bytes.now = (omega arith, omega arith, omega arith) in
     rw (p.1, p.2)
-    (floor_fault_at c.args.bytes.now right c.loop-number.number _ c.loop-number.invariant.0 c.in_err-held.ensures (omega arith))
+    (floor_fault_at c.args.bytes.now right 0 _ refl (first_refused c.args.bytes.now c.as_chunks.result.0.now e.front e.front_len (omega arith) ∙ c.in_err-plate.ensures) (omega arith))
 
-pub loop-number-preserved : goal.loop-number-preserved
-loop-number-preserved c =
-    let k = c.loop-number.number in
-    let held = c.in_ok-held.ensures in
+pub loop-before-init : goal.loop-before-init
+loop-before-init c =
+    let e = c.as_chunks.ensures in
+    let none = eqb-true (length c.as_chunks.result.1.now) 0 (sym c.is_empty.ensures ∙ c.if-not-is_empty.false) in
+    let right : Right c.args.bytes.now = (omega arith, omega arith, omega arith) in
+    let fine = first_refused c.args.bytes.now c.as_chunks.result.0.now e.front e.front_len (omega arith) ∙ c.in_ok-plate.ensures.0 in
+    record { fine = ap (λ o. or_else o None) fine; counted = sym (plate_count c.args.bytes.now right fine) ∙ sym (zero-add _) }
+
+pub invariant_of-block : goal.invariant_of-block
+invariant_of-block c =
+    let e = c.as_chunks.ensures in
+    record { whole = other_long c.args.bytes.now c.as_chunks.result.0.now e.front e.front_len c.loop-before.before (omega arith); inside = omega arith; few = omega arith }
+
+pub returns-in_err-count : goal.returns-in_err-count
+returns-in_err-count c =
+    let p = err_from_is_err_and c.from_residual-in_err-count.result c.from_residual-in_err-count.ensures.1 in
+    let e = c.as_chunks.ensures in
+    let none = eqb-true (length c.as_chunks.result.1.now) 0 (sym c.is_empty.ensures ∙ c.if-not-is_empty.false) in
+    let right : Right c.args.bytes.now = (omega arith, omega arith, omega arith) in
+    let k = c.loop-before.before in
+    rw (p.1, p.2)
+    (floor_fault_at c.args.bytes.now right (k + 1) _ c.loop-before.invariant.fine (other_refused c.args.bytes.now c.as_chunks.result.0.now e.front e.front_len k (omega arith) ∙ c.in_err-count.ensures) (omega arith))
+
+pub loop-before-preserved : goal.loop-before-preserved
+loop-before-preserved c =
+    let e = c.as_chunks.ensures in
+    let k = c.loop-before.before in
+    let count = c.in_ok-count.ensures in
     let i : k + 1 - 1 ≡ k = omega arith in
-    let e : k + 1 - 2 ≡ k - 1 = omega arith in (
-      first_among_more (refused_in c.args.bytes.now) k c.loop-number.invariant.0 held.0,
-      rw (e, i) (ap (λ n. 13 * (k - 1) + n) held.1.0),
-    )
+    record {
+      fine = first_among_more (refused_in c.args.bytes.now) (k + 1) c.loop-before.invariant.fine (other_refused c.args.bytes.now c.as_chunks.result.0.now e.front e.front_len k (omega arith) ∙ count.0);
+      counted = rw i (ap (λ n. 13 * k + n) (count.1.0 ∙ ap (λ b. get_or b 1 0) (other_is c.args.bytes.now c.as_chunks.result.0.now e.front e.front_len k (omega arith))));
+    }
 
 pub returns : goal.returns
 unfolding fixture_count
 returns c =
     let bytes = c.args.bytes.now in
+    let e = c.as_chunks.ensures in
+    let k = c.loop-before.before in
+    let none = eqb-true (length c.as_chunks.result.1.now) 0 (sym c.is_empty.ensures ∙ c.if-not-is_empty.false) in
     let right : Right bytes = (omega arith, omega arith, omega arith) in
-    let e : c.loop-number.number ≡ length bytes / 512 = omega arith in (
-      floor_blocks bytes right ∙ sym (ap (first_among (refused_in bytes) 0) e) ∙ c.loop-number.invariant.0,
+    let n : k + 1 ≡ length bytes / 512 = omega arith in
+    let fine = floor_blocks bytes right ∙ sym (ap (first_among (refused_in bytes) 0) n) ∙ c.loop-before.invariant.fine in
+    let two : k - 1 ≡ length bytes / 512 - 2 = omega arith in
+    let one : k ≡ length bytes / 512 - 1 = omega arith in (
+      fine,
       (
-        c.in_ok-plate.ensures.1,
-        c.loop-number.invariant.1 ∙ ap (λ k. 13 * (k - 2) + get_or (block_in bytes (k - 1)) 1 0) e,
+        (
+          c.in_ok-plate.ensures.1 ∙ ap (λ b. plate_at b 8) (first_is bytes c.as_chunks.result.0.now e.front e.front_len (omega arith)),
+          c.loop-before.invariant.counted ∙ rw (two, one),
+        ),
+        written bytes (λ i. (c.type_inv.bytes i).fits) fine,
       ),
     )

@@ -3,5 +3,8 @@ use Rattle.floors.specs.Blocks.{first_among}
 use Rattle.floors.specs.Floors.{refused_in, block_in}
 use Rattle.floor_reader.proofs.reading.check_floor.Given as goal
 
-abbrev pub invariant-loop-number : goal.invariant-loop-number
-invariant-loop-number l = (first_among (refused_in l.bytes) 0 l.number ≡ None) × (l.count ≡ 13 * (l.number - 2) + get_or (block_in l.bytes (l.number - 1)) 1 0)
+abbrev pub invariant-loop-before : goal.invariant-loop-before
+invariant-loop-before l = record {
+  fine : first_among (refused_in l.bytes) 0 (l.before + 1) ≡ None;
+  counted : l.count ≡ 13 * (l.before - 1) + get_or (block_in l.bytes l.before) 1 0;
+}

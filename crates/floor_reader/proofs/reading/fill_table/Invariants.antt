@@ -4,4 +4,4 @@ use Rattle.floors.specs.Floors.{row_in}
 use Rattle.floor_reader.proofs.reading.fill_table.Given as goal
 
 abbrev pub invariant-loop-k : goal.invariant-loop-k
-invariant-loop-k l = l.table ≡ map (row_in l.bytes) (range_with_len 0 l.k) ++ drop l.k l.initial.table
+invariant-loop-k l = l.row-items ≡ map (row_in l.bytes) (range_with_len 0 l.k) ++ drop l.k l.initial.row-items
