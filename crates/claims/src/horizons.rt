@@ -7,7 +7,7 @@ use crate::boxes::Span;
 mod strips;
 
 // The rectangle that a cart sees, and the speed at which unseen things may come from outside it.
-#[derive(Clone, Copy)]
+#[derive(Clone, Copy, Debug, PartialEq, Eq)]
 pub struct Seen {
     x: Span,
     y: Span,

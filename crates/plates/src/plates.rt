@@ -7,7 +7,7 @@ mod making;
 mod reading;
 
 // The numbers of one cart; `PlateFields` says what each is. Every plate that exists keeps what the ghost fields say.
-#[derive(Clone, Copy)]
+#[derive(Clone, Copy, Debug, PartialEq, Eq)]
 pub struct Plate {
     brake: u64,
     pull: u64,

@@ -6,7 +6,7 @@ use crate::layers::Fault;
 use std::fmt;
 
 // A fault, as a refusal is written: its number, its layer and its words.
-#[derive(Clone, Copy)]
+#[derive(Clone, Copy, Debug, PartialEq, Eq)]
 pub struct Refused<F>(pub F);
 
 impl<F: Fault + fmt::Display> fmt::Display for Refused<F> {

@@ -8,7 +8,7 @@ use crate::asking::Surroundings;
 use claims::{Claim, Reach, Seen};
 
 // The four strips around the rectangle that is seen, and then the claims of the surroundings below.
-#[derive(Clone, Copy)]
+#[derive(Clone, Copy, Debug, PartialEq, Eq)]
 pub struct Horizon<S> {
     pub seen: Seen,
     pub below: S,
