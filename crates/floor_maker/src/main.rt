@@ -2,9 +2,11 @@
 #![tactic(auto)]
 
 use anyhow::anyhow;
-use claims::{Fixture, Span};
+use claims::{Fixture, Row, Span};
 use floor_writer::write_floor;
-use plates::{Plate, PlateFields};
+use floors::{BLOCK, MOST_BLOCKS};
+use numerals::numbers;
+use plates::Plate;
 use refusals::Refused;
 use std::io::{BufRead, BufReader, Read, Write};
 use std::{env, fmt};
@@ -18,20 +20,7 @@ The last line is how many fixtures there are and the word fixtures.";
 const MOST_TEXT: u64 = 1_048_576;
 
 // The longest floor file.
-const MOST_BYTES: usize = 40_960;
-
-// The whole numbers of some words, if there are just so many.
-fn numbers<const N: usize>(text: &str) -> Option<[i64; N]> {
-    let mut values = [0; N];
-    let mut words = text.split_whitespace();
-    for value in values.iter_mut() {
-        *value = words.next()?.parse::<i64>().ok()?;
-    }
-    match words.next() {
-        None => Some(values),
-        Some(_) => None,
-    }
-}
+const MOST_BYTES: usize = BLOCK * MOST_BLOCKS;
 
 // The nine numbers after the word `plate`.
 fn plate_numbers(line: &str) -> Option<[i64; 9]> {
@@ -54,28 +43,28 @@ fn wrong<D: fmt::Display + Drop>(rt: &HostRuntime, line: usize, words: D) -> any
 
 // The plate of the first line.
 fn plate_of(rt: &HostRuntime, text: &str) -> anyhow::Result<Plate> {
-    let Some(fields) = plate_numbers(text) else {
-        return Err(wrong(rt, 1, "not the word plate and nine whole numbers"));
-    };
-    match Plate::new(PlateFields::in_order(fields)) {
-        Ok(plate) => Ok(plate),
-        Err(fault) => Err(wrong(rt, 1, Refused(fault))),
-    }
+    let fields = plate_numbers(text).ok_or_else(|| wrong(
+        rt,
+        1,
+        "not the word plate and nine whole numbers",
+    ))?;
+    Plate::new(fields.into()).map_err(|fault| wrong(rt, 1, Refused(fault)))
 }
 
 // The fixture of a later line.
 fn fixture_of(rt: &HostRuntime, line: usize, text: &str) -> anyhow::Result<Fixture> {
-    let Some(numbers) = numbers::<5>(text) else {
-        return Err(wrong(
+    let [label, low_x, high_x, low_y, high_y] = numbers::<5>(text).ok_or_else(|| {
+        wrong(
             rt,
             line,
             "neither the five whole numbers of a fixture, nor a count and the word fixtures",
-        ));
-    };
-    let [label, low_x, high_x, low_y, high_y] = numbers;
-    let Ok(label) = u32::try_from(label) else {
-        return Err(wrong(rt, line, "the label is not from 0 to 4294967295"));
-    };
+        )
+    })?;
+    let label = u32::try_from(label).map_err(|_| wrong(
+        rt,
+        line,
+        "the label is not from 0 to 4294967295",
+    ))?;
     let row = Fixture {
         label,
         x: Span {
@@ -87,20 +76,16 @@ fn fixture_of(rt: &HostRuntime, line: usize, text: &str) -> anyhow::Result<Fixtu
             high: high_y,
         },
     };
-    match row.checked() {
-        Ok(fixture) => Ok(fixture),
-        Err(fault) => Err(wrong(rt, line, Refused(fault))),
-    }
+    row.checked()
+        .map_err(|fault| wrong(rt, line, Refused(fault)))
 }
 
 // Writes the floor file of a plate and fixtures to standard output.
 fn write_out(rt: &HostRuntime, plate: &Plate, rows: &[Fixture]) -> anyhow::Result<()> {
     let mut out = vec![in rt.alloc(); 0u8; MOST_BYTES]?;
+    // Tried with `or_else` and `?` on the result: the proof that the length is within the bytes ran out of memory.
     match write_floor(plate, rows, out.as_mut_slice()) {
-        Ok(length) => {
-            rt.stdout().write_all(&out[0..length])?;
-            Ok(())
-        }
+        Ok(length) => Ok(rt.stdout().write_all(&out[0..length])?),
         Err(fault) => {
             rt.eprintln(Refused(fault))?;
             Err(anyhow!("no floor is written"))
@@ -125,22 +110,24 @@ fn run(rt: &HostRuntime) -> anyhow::Result<()> {
     let plate = plate_of(rt, first?.as_str())?;
     let mut rows = Vec::new(rt.alloc());
     let mut counted = None;
-    let mut number: usize = 1;
-    for line in lines {
-        number = number.saturating_add(1);
+    for (line, number) in lines.zip(2..) {
         let text = line?;
         if counted.is_some() {
             return Err(wrong(rt, number, "a line follows the count"));
         }
-        counted = count_of(text.as_str());
-        if counted.is_none() {
-            rows.push(fixture_of(rt, number, text.as_str())?)?;
+        match count_of(text.as_str()) {
+            Some(count) => counted = Some((number, count)),
+            None => rows.push(fixture_of(rt, number, text.as_str())?)?,
         }
     }
     match counted {
-        Some(count) if count == rows.len() as i64 => write_out(rt, &plate, rows.as_slice()),
-        Some(_) => Err(wrong(rt, number, "not the count of the fixtures before it")),
-        None => Err(wrong(rt, number, "no count and the word fixtures after it")),
+        Some((_, count)) if count == rows.len() as i64 => write_out(rt, &plate, rows.as_slice()),
+        Some((number, _)) => Err(wrong(rt, number, "not the count of the fixtures before it")),
+        None => Err(wrong(
+            rt,
+            rows.len() + 1,
+            "no count and the word fixtures after it",
+        )),
     }
 }
 
