@@ -31,7 +31,7 @@ impl fmt::Display for PlateLine {
     ghost output = { λ line. Some (plate_line (held line.0)) };
 
     fn fmt<W: fmt::Write>(&self, f: &mut fmt::Formatter<W>) -> fmt::Result {
-        let numbers = Blanked(self.0.fields().numbers());
+        let numbers = Blanked(self.0.fields().into());
         write!(f, "plate{numbers}")
     }
 }
@@ -59,7 +59,7 @@ impl fmt::Display for CountLine {
     ghost output = { λ line. Some (count_line line.0) };
 
     fn fmt<W: fmt::Write>(&self, f: &mut fmt::Formatter<W>) -> fmt::Result {
-        let count = Numeral(i128::from(self.0 as u64));
+        let count = Numeral(self.0 as i128);
         write!(f, "{count} fixtures")
     }
 }
@@ -76,8 +76,8 @@ impl fmt::Display for FaultLine {
         let inner = Numeral(i128::from(self.0.inner()));
         match self.0.place() {
             Some(Place { block, byte }) => {
-                let block = Numeral(i128::from(block as u64));
-                let byte = Numeral(i128::from(byte as u64));
+                let block = Numeral(block as i128);
+                let byte = Numeral(byte as i128);
                 write!(f, "fault {number} block {block} byte {byte} inner {inner}")
             }
             None => write!(f, "fault {number}"),

@@ -4,7 +4,8 @@
 mod lines;
 
 use anyhow::anyhow;
-use floor_reader::{Fixture, Plate, Span, read_floor};
+use floor_reader::{Fixture, Plate, read_floor};
+use floors::{BLOCK, MOST, MOST_BLOCKS};
 use lines::{CountLine, FaultLine, FixtureLine, PlateLine};
 use refusals::Refused;
 use std::io::Read;
@@ -14,18 +15,7 @@ const USAGE: &str = "usage: roll_call < FLOOR
 FLOOR is a floor file. Its plate, each fixture and their count are written, or one line that says why it is not read.";
 
 // One byte more than the longest floor file: of a longer input no more is read, and this much is refused by its length.
-const MOST_BYTES: u64 = 40_961;
-
-// A table that any floor fits into.
-const MOST_ROWS: usize = 1_024;
-
-const ZERO: Span = Span { low: 0, high: 0 };
-
-const ZERO_FIXTURE: Fixture = Fixture {
-    label: 0,
-    x: ZERO,
-    y: ZERO,
-};
+const MOST_BYTES: u64 = (BLOCK * MOST_BLOCKS + 1) as u64;
 
 fn list(rt: &HostRuntime, plate: Plate, fixtures: &[Fixture]) -> io::Result<()> {
     rt.println(PlateLine(plate))?;
@@ -47,12 +37,9 @@ fn run(rt: &HostRuntime) -> anyhow::Result<()> {
     let heap = rt.alloc();
     let mut bytes = Vec::new(heap);
     rt.stdin().take(MOST_BYTES).read_to_end(&mut bytes)?;
-    let mut table = vec![in heap; ZERO_FIXTURE; MOST_ROWS]?;
+    let mut table = vec![in heap; Fixture::default(); MOST]?;
     match read_floor(bytes.as_slice(), table.as_mut_slice()) {
-        Ok(floor) => {
-            list(rt, floor.plate, &table[0..floor.count])?;
-            Ok(())
-        }
+        Ok(floor) => Ok(list(rt, floor.plate, &table[0..floor.count])?),
         Err(fault) => {
             rt.println(FaultLine(fault))?;
             rt.eprintln(Refused(fault))?;
