@@ -1,5 +1,6 @@
 -- The first place at which bytes depart from those wanted. Assumes nothing.
-use Rattle.std.proofs.Common.{◌≡◌, ℕ, zero, suc, ◌+◌, ◌-◌, ◌*◌, ◌≤◌, min, max, true, false, cond, eqb, List, [], ◌∷◌, ◌++◌, length, get_or, take, drop, replicate, Some, None, Option, sym, refl, ap, ◌∙◌, ⊎_elim, add-zero, add_assoc, Bool, not, arith, length-drop, take-add}
+use Rattle.std.proofs.Common.{◌≡◌, ℕ, zero, suc, ◌+◌, ◌-◌, ◌≤◌, true, false, cond, eqb, List, [], ◌∷◌, ◌++◌, length, get_or, take, drop, replicate, Some, None, Option, sym, refl, ap, ◌∙◌, ⊎_elim, add-zero, add_assoc, Bool, not, arith, length-drop, take-add}
+use Rattle.std.proofs.lemmas.Bool.Decides.{nat_tests}
 use Rattle.std.proofs.lemmas.Bool.{eq-eqb, eqb-true, cases_Bool, ne_eqb}
 use Rattle.std.proofs.lemmas.List.{length-take-le}
 use Rattle.floors.specs.Bytes.{departs}
@@ -17,8 +18,8 @@ departs_same k (w ∷ ws) = rw (eq-eqb w w refl) (departs_same (k + 1) ws)
 pub departs_append : (k : ℕ) (ws vs bs cs : List ℕ) → length ws ≡ length bs
     → departs k (ws ++ vs) (bs ++ cs) ≡ option_or (departs k ws bs) (departs (k + length ws) vs cs)
 departs_append k [] vs [] cs h = rw add-zero
-departs_append k [] vs (b ∷ bs) cs h = let z : ⊥ = omega arith in absurd z
-departs_append k (w ∷ ws) vs [] cs h = let z : ⊥ = omega arith in absurd z
+departs_append k [] vs (b ∷ bs) cs h = absurd (omega arith)
+departs_append k (w ∷ ws) vs [] cs h = absurd (omega arith)
 departs_append k (w ∷ ws) vs (b ∷ bs) cs h =
     let e : k + 1 + length ws ≡ k + suc (length ws) = omega arith in
     let r = rw e at (departs_append (k + 1) ws vs bs cs (omega arith)) in
@@ -28,12 +29,12 @@ departs_append k (w ∷ ws) vs (b ∷ bs) cs h =
 -- what does not depart is the same
 pub departs_none : (k : ℕ) (ws bs : List ℕ) → length ws ≡ length bs → departs k ws bs ≡ None → ws ≡ bs
 departs_none k [] [] h e = refl
-departs_none k [] (b ∷ bs) h e = let z : ⊥ = omega arith in absurd z
-departs_none k (w ∷ ws) [] h e = let z : ⊥ = omega arith in absurd z
+departs_none k [] (b ∷ bs) h e = absurd (omega arith)
+departs_none k (w ∷ ws) [] h e = absurd (omega arith)
 departs_none k (w ∷ ws) (b ∷ bs) h e =
     ⊎_elim
     (λ t. let p = eqb-true w b t in let q = departs_none (k + 1) ws bs (omega arith) (rw t at e) in cc)
-    (λ f. let s : Some k ≡ None = rw f at e in let z : ◌≡◌ {A = ℕ} 0 1 = cc in let w : ⊥ = omega arith in absurd w)
+    (λ f. let s : Some k ≡ None = rw f at e in absurd cc)
     (cases_Bool (eqb w b))
 
 -- where zeros are wanted, the first byte that is not 0
@@ -73,8 +74,7 @@ departs_body i count used b len h =
 
 pub used_small : (n i count : ℕ) → used_bytes i (nearest_count n i count) ≤ 502
 used_small n zero count = omega arith
-used_small n (suc i) count =
-    elim (eqb (i + 2) n) as (λ t. 36 * max (cond t 1 13) (min count (min 13 (1024 - 13 * i))) ≤ 502) [ true ↦ omega arith | false ↦ omega arith ]
+used_small n (suc i) count = grind (arith, nat_tests)
 
 -- a fault at the first of two places
 first : {X : Type 0} (f : ℕ → X) (a b : Option ℕ) (x : X) → option_map f a ≡ Some x → option_map f (option_or a b) ≡ Some x

@@ -1,12 +1,13 @@
 -- The whole file: its length, its blocks and how many fixtures it holds. Assumes nothing.
-use Rattle.std.proofs.Common.{◌≡◌, ℕ, zero, suc, ◌+◌, ◌-◌, ◌*◌, ◌/◌, ◌%◌, ◌<◌, ◌≤◌, true, ◌&&◌, eqb, leb, List, length, get_or, drop, Some, None, sym, refl, ◌∙◌, ⊎_elim, zero-add, arith}
+use Rattle.std.proofs.Common.{◌≡◌, ℕ, zero, suc, ◌+◌, ◌-◌, ◌*◌, ◌/◌, ◌%◌, ◌<◌, ◌≤◌, true, List, length, get_or, drop, Some, None, sym, refl, ◌∙◌, zero-add, arith}
 use Rattle.std.proofs.lemmas.List.{length-take-le, length-drop}
-use Rattle.std.proofs.lemmas.Bool.{eq-eqb, le-leb, eqb-true, leb-true, and_parts, cases_Bool, and_from}
+use Rattle.std.proofs.lemmas.Bool.Decides.{nat_tests}
+use Rattle.std.proofs.lemmas.Bool.{false_from_ne_true, eq-eqb}
 use Rattle.refusals.specs.Refusals.{Refusal}
 use Rattle.floors.specs.declared.faults.BlockFault.TheVariants.{WrongLength}
 use Rattle.floors.specs.Faults.{block_fault}
 use Rattle.floors.specs.Blocks.{frame_refused, records_refused, block_refused, nearest_count, first_among}
-use Rattle.floors.specs.Floors.{block_in, right_length, refused_in, floor_refused, fixture_count, read_refused}
+use Rattle.floors.specs.Floors.{block_in, right_length, refused_in, floor_refused, fixture_count}
 use Rattle.floors.proofs.Firsts.{or_else_none, first_among_found, first_among_none}
 use Rattle.floors.proofs.Frames.{frame_count}
 
@@ -15,22 +16,14 @@ abbrev pub Right : List ℕ → Type 0
 Right bytes = (length bytes % 512 ≡ 0) × (1 ≤ length bytes / 512) × (length bytes / 512 ≤ 80)
 
 pub right_from : (bytes : List ℕ) → right_length (length bytes) ≡ true → Right bytes
-right_from bytes e =
-    let n = length bytes in
-    let p = and_parts (eqb (n % 512) 0) (leb 1 (n / 512) && leb (n / 512) 80) e in
-    let q = and_parts (leb 1 (n / 512)) (leb (n / 512) 80) p.1 in
-    (eqb-true (n % 512) 0 p.0, leb-true 1 (n / 512) q.0, leb-true (n / 512) 80 q.1)
+right_from bytes e = grind (arith, nat_tests)
 
 pub right_to : (bytes : List ℕ) → Right bytes → right_length (length bytes) ≡ true
-right_to bytes r =
-    let n = length bytes in
-    and_from (eqb (n % 512) 0) (leb 1 (n / 512) && leb (n / 512) 80) (eq-eqb (n % 512) 0 r.0)
-    (and_from (leb 1 (n / 512)) (leb (n / 512) 80) (le-leb 1 (n / 512) r.1) (le-leb (n / 512) 80 r.2))
+right_to bytes r = grind (arith, nat_tests)
 
 pub length_fault : (bytes : List ℕ) → (Right bytes → ⊥) → floor_refused bytes ≡ Some (block_fault WrongLength)
 unfolding floor_refused
-length_fault bytes h =
-    ⊎_elim (λ t. absurd (h (right_from bytes t))) (λ f. rw f) (cases_Bool (right_length (length bytes)))
+length_fault bytes h = rw (false_from_ne_true _ (λ t. h (right_from bytes t)))
 
 module _ (bytes : List ℕ) (right : Right bytes) where
   pub floor_blocks : floor_refused bytes ≡ first_among (refused_in bytes) 0 (length bytes / 512)
@@ -61,10 +54,7 @@ plate_count bytes right e = let z = count_right bytes right 0 right.1 e in omega
 module _ (bytes : List ℕ) (fine : floor_refused bytes ≡ None) where
   pub floor_right : Right bytes
   unfolding floor_refused
-  floor_right =
-      ⊎_elim (λ t. right_from bytes t)
-      (λ f. let s = rw f at fine in let z : ◌≡◌ {A = ℕ} 0 1 = cc in let w : ⊥ = omega arith in absurd w)
-      (cases_Bool (right_length (length bytes)))
+  floor_right = right_from bytes (grind (arith, nat_tests))
 
   pub floor_none : (i : ℕ) → i < length bytes / 512 → refused_in bytes i ≡ None
   floor_none i h =
@@ -72,7 +62,7 @@ module _ (bytes : List ℕ) (fine : floor_refused bytes ≡ None) where
 
 -- the fixtures of a file with no fault are at most 1,024, and 13 to a block
 last_few : (n c : ℕ) → 1 ≤ n → n ≤ 80 → ((i : ℕ) → i + 1 ≡ n → nearest_count n i c ≡ c) → (13 * (n - 2) + c ≤ 1024) × (13 * (n - 2) + c ≤ 13 * (n - 1))
-last_few zero c a b e = let w : ⊥ = omega arith in absurd w
+last_few zero c a b e = absurd (omega arith)
 last_few (suc zero) c a b e = let z = e 0 refl in (omega arith, omega arith)
 last_few (suc (suc m)) c a b e =
     let z = rw (eq-eqb (m + 2) (suc (suc m)) (omega arith)) at (e (suc m) (omega arith)) in
@@ -86,7 +76,3 @@ count_few bytes e =
     last_few n (get_or (block_in bytes (n - 1)) 1 0) right.1 right.2
     (λ i s. let l : i < n = omega arith in let q : n - 1 ≡ i = omega arith in
     rw q (count_right bytes right i l (floor_none bytes e i l)))
-
--- no fault, and room enough
-pub read_none : (bytes : List ℕ) (room : ℕ) → floor_refused bytes ≡ None → fixture_count bytes ≤ room → read_refused bytes room ≡ None
-read_none bytes room e h = rw (e, le-leb (fixture_count bytes) room h)

@@ -6,7 +6,7 @@ use Rattle.refusals.specs.Answers.{or_else}
 use Rattle.floors.specs.Blocks.{first_among}
 
 pub or_else_none : (a b : Option Refusal) → or_else a b ≡ None → (a ≡ None) × (b ≡ None)
-or_else_none (Some x) b e = let z : ◌≡◌ {A = ℕ} 0 1 = cc in let w : ⊥ = omega arith in absurd w
+or_else_none (Some x) b e = absurd cc
 or_else_none None b e = (refl, e)
 
 or_else_assoc : (a b c : Option Refusal) → or_else (or_else a b) c ≡ or_else a (or_else b c)
@@ -33,7 +33,7 @@ first_among_found f i n x e h l =
 
 -- no answer at all
 pub first_among_none : (f : ℕ → Option Refusal) (a n : ℕ) → first_among f a n ≡ None → (i : ℕ) → i < n → f (a + i) ≡ None
-first_among_none f a zero e i l = let w : ⊥ = omega arith in absurd w
+first_among_none f a zero e i l = absurd (omega arith)
 first_among_none f a (suc n) e zero l = rw add-zero (or_else_none (f a) (first_among f (a + 1) n) e).0
 first_among_none f a (suc n) e (suc i) l =
     let s : a + 1 + i ≡ a + suc i = omega arith in
@@ -46,5 +46,5 @@ first_among_all f a (suc n) h =
     rw here (first_among_all f (a + 1) n (λ i l. let s : a + suc i ≡ a + 1 + i = omega arith in rw s at (h (suc i) (omega arith))))
 
 pub mapped_none : {X Y : Type 0} (f : X → Y) (o : Option X) → option_map f o ≡ None → o ≡ None
-mapped_none f (Some x) e = let z : ◌≡◌ {A = ℕ} 0 1 = cc in let w : ⊥ = omega arith in absurd w
+mapped_none f (Some x) e = absurd cc
 mapped_none f None e = refl

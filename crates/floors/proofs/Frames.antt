@@ -1,7 +1,7 @@
 -- What holds of a block that is not refused but for its records. Assumes nothing.
-use Rattle.std.proofs.Common.{◌≡◌, ℕ, zero, suc, ◌+◌, ◌-◌, ◌*◌, ◌%◌, ◌<◌, ◌≤◌, min, max, true, false, cond, eqb, List, ◌++◌, length, get_or, take, drop, replicate, Some, None, sym, refl, ap, ◌∙◌, ⊎_elim, arith, length-append}
+use Rattle.std.proofs.Common.{◌≡◌, ℕ, zero, suc, ◌-◌, ◌%◌, ◌<◌, ◌≤◌, List, ◌++◌, length, get_or, take, drop, replicate, Some, None, sym, refl, ap, ◌∙◌, arith, length-append}
 use lib.ListN.{length-replicate}
-use Rattle.std.proofs.lemmas.Bool.{eqb-true, cases_Bool}
+use Rattle.std.proofs.lemmas.Bool.Decides.{nat_tests}
 use Rattle.std.proofs.lemmas.List.{length-take-le, length-drop, get_or-take}
 use Rattle.refusals.specs.Refusals.{Refusal}
 use Rattle.refusals.specs.Answers.{or_else}
@@ -17,14 +17,10 @@ length_body i count rs h =
 
 nearest_few : (n i count : ℕ) → nearest_count n i count ≤ 13
 nearest_few n zero count = omega arith
-nearest_few n (suc i) count =
-    elim (eqb (i + 2) n) as (λ t. max (cond t 1 13) (min count (min 13 (1024 - 13 * i))) ≤ 13) [ true ↦ omega arith | false ↦ omega arith ]
+nearest_few n (suc i) count = grind (arith, nat_tests)
 
 sum_none : (i : ℕ) (b : List ℕ) → sum_refused i b ≡ None → word_sum b % 65536 ≡ 0
-sum_none i b e =
-    ⊎_elim (λ t. eqb-true (word_sum b % 65536) 0 t)
-    (λ f. let s = rw f at e in let z : ◌≡◌ {A = ℕ} 0 1 = cc in let w : ⊥ = omega arith in absurd w)
-    (cases_Bool (eqb (word_sum b % 65536) 0))
+sum_none i b e = grind (arith, nat_tests)
 
 module _ (n i : ℕ) (b : List ℕ) (len : length b ≡ 512) (fine : frame_refused n i b ≡ None) where
   pub frame_sum : word_sum b % 65536 ≡ 0
@@ -56,7 +52,7 @@ module _ (n i : ℕ) (b : List ℕ) (past : 0 < i) (fine : frame_refused n i b �
   block_rows = ap (λ o. or_else o (records_refused i b)) fine ∙ rows i past
     where
       rows : (i : ℕ) → 0 < i → records_refused i b ≡ first_among (row_refused i b) 0 (get_or b 1 0)
-      rows zero h = let w : ⊥ = omega arith in absurd w
+      rows zero h = absurd (omega arith)
       rows (suc i) h = refl
 
   pub block_row_fault : (j : ℕ) (e : Refusal) → first_among (row_refused i b) 0 j ≡ None → row_refused i b j ≡ Some e → j < get_or b 1 0 → block_refused n i b ≡ Some e

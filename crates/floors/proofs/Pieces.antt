@@ -1,18 +1,33 @@
 -- Lists made of pieces of one size, and lists that count. Assumes nothing.
-use Rattle.std.proofs.Common.{◌≡◌, ℕ, zero, suc, ◌+◌, ◌-◌, ◌*◌, ◌<◌, ◌≤◌, min, List, [], ◌∷◌, ◌++◌, map, length, get_or, take, drop, sym, refl, ap, ◌∙◌, add-zero, add_comm, mul-zero, zero-add, mul-one, mul-suc, mul-add, arith, length-append, take-add}
-use Rattle.std.proofs.lemmas.List.{append_assoc, drop-drop, take_at, drop_at, take-map, drop-map}
+use Rattle.std.proofs.Common.{◌≡◌, ℕ, zero, suc, ◌+◌, ◌-◌, ◌*◌, ◌<◌, ◌≤◌, min, List, [], ◌∷◌, ◌++◌, map, length, get_or, take, drop, sym, refl, ap, ◌∙◌, add_comm, mul-zero, zero-add, mul-one, mul-suc, mul-add, arith, length-append, take-add}
+use Rattle.std.proofs.lemmas.List.{append_assoc, drop-drop, take_at, drop_at, same_lists, length-take, length-drop, get_or-take, get_or-drop}
+use Rattle.std.proofs.lemmas.List.Folds.{flat_map-map}
+use Rattle.std.proofs.lemmas.List.FromFn.{length-map-range_with_len, get_or-map-range_with_len}
 use Rattle.std.specs.List.{range_with_len, flat_map}
 
+-- ---- lists that count
+pub map_same : {X : Type 0} (f g : ℕ → X) (a b n : ℕ) → ((k : ℕ) → k < n → f (a + k) ≡ g (b + k)) → map f (range_with_len a n) ≡ map g (range_with_len b n)
+map_same f g a b n h =
+    let l = length-map-range_with_len f a n in
+    same_lists _ _ (l ∙ sym (length-map-range_with_len g b n))
+    (λ k d p. get_or-map-range_with_len f a n k (a + k) d (omega arith) refl ∙ h k (omega arith) ∙ sym (get_or-map-range_with_len g b n k (b + k) d (omega arith) refl))
+
+-- the rows from a on, at most k, of n
+pub rows_part : {X : Type 0} (f : ℕ → X) (k a n : ℕ) → take k (drop a (map f (range_with_len 0 n))) ≡ map f (range_with_len a (min k (n - a)))
+rows_part f k a n =
+    let long : length (take k (drop a (map f (range_with_len 0 n)))) ≡ min k (n - a) = simp (length-take, length-drop, length-map-range_with_len) in
+    same_lists _ _ (long ∙ sym (length-map-range_with_len f a (min k (n - a))))
+    (λ j d h. get_or-take k (drop a (map f (range_with_len 0 n))) j d (omega arith) ∙ get_or-drop a (map f (range_with_len 0 n)) j d
+    ∙ get_or-map-range_with_len f 0 n (a + j) (a + j) d (omega arith) (zero-add (a + j)) ∙ sym (get_or-map-range_with_len f a (min k (n - a)) j (a + j) d (omega arith) refl))
+
+-- ---- lists made of pieces
 pub joined_map : {X Y Z : Type 0} (f : Y → List Z) (g : X → Y) (xs : List X) → flat_map f (map g xs) ≡ flat_map (λ x. f (g x)) xs
-joined_map f g [] = refl
-joined_map f g (x ∷ xs) = ap (λ l. f (g x) ++ l) (joined_map f g xs)
+joined_map = flat_map-map
 
 pub joined_same : {Z : Type 0} (f g : ℕ → List Z) (a n : ℕ) → ((k : ℕ) → a ≤ k → k < a + n → f k ≡ g k) → flat_map f (range_with_len a n) ≡ flat_map g (range_with_len a n)
-joined_same f g a zero h = refl
-joined_same f g a (suc n) h =
-    let e = h a (omega arith) (omega arith) in
-    let r = joined_same f g (a + 1) n (λ k p q. h k (omega arith) (omega arith)) in
-    ap (λ l. l ++ flat_map f (range_with_len (a + 1) n)) e ∙ ap (λ l. g a ++ l) r
+joined_same f g a n h =
+    sym (flat_map-map (λ l. l) f (range_with_len a n)) ∙ ap (flat_map (λ l. l)) (map_same f g a a n (λ k l. h (a + k) (omega arith) (omega arith)))
+    ∙ flat_map-map (λ l. l) g (range_with_len a n)
 
 pub pieces : {Z : Type 0} (bs : List Z) (s at a n : ℕ) → flat_map (λ k. take s (drop (at + s * k) bs)) (range_with_len a n) ≡ take (s * n) (drop (at + s * a) bs)
 pieces bs s at a zero = rw mul-zero
@@ -31,7 +46,7 @@ module _ {X Z : Type 0} (g : X → List Z) (s : ℕ) (size : (x : X) → length 
   length_joined (x ∷ xs) = length-append (g x) (flat_map g xs) ∙ omega (arith, size x, length_joined xs, mul-suc s (length xs))
 
   pub joined_at : (xs : List X) (rest : List Z) (i : ℕ) (d : X) → i < length xs → take s (drop (s * i) (flat_map g xs ++ rest)) ≡ g (get_or xs i d)
-  joined_at [] rest i d h = let w : ⊥ = omega arith in absurd w
+  joined_at [] rest i d h = absurd (omega arith)
   joined_at (x ∷ xs) rest zero d h =
       rw mul-zero (ap (take s) (append_assoc (g x) (flat_map g xs) rest) ∙ take_at (g x) (flat_map g xs ++ rest) s (size x))
   joined_at (x ∷ xs) rest (suc i) d h =
@@ -40,32 +55,3 @@ module _ {X Z : Type 0} (g : X → List Z) (s : ℕ) (size : (x : X) → length 
       ap (λ k. drop k ((g x ++ flat_map g xs) ++ rest)) m ∙ sym (drop-drop (s * i) s ((g x ++ flat_map g xs) ++ rest))
       ∙ ap (drop (s * i)) (ap (drop s) (append_assoc (g x) (flat_map g xs) rest) ∙ drop_at (g x) (flat_map g xs ++ rest) s (size x)) in
       ap (take s) e ∙ joined_at xs rest i d (omega arith)
-
--- ---- lists that count
-pub map_same : {X : Type 0} (f g : ℕ → X) (a b n : ℕ) → ((k : ℕ) → k < n → f (a + k) ≡ g (b + k)) → map f (range_with_len a n) ≡ map g (range_with_len b n)
-map_same f g a b zero h = refl
-map_same f g a b (suc n) h =
-    let e : f a ≡ g b = rw (add-zero, add-zero) at (h 0 (omega arith)) in
-    let r = map_same f g (a + 1) (b + 1) n (λ k l. let p : a + suc k ≡ a + 1 + k = omega arith in let q : b + suc k ≡ b + 1 + k = omega arith in rw (p, q) at (h (suc k) (omega arith))) in
-    ap (λ x. x ∷ map f (range_with_len (a + 1) n)) e ∙ ap (λ l. g b ∷ l) r
-
-counting_take : (k b n : ℕ) → take k (range_with_len b n) ≡ range_with_len b (min k n)
-counting_take zero b n = let e : 0 ≡ min 0 n = omega arith in ap (range_with_len b) e
-counting_take (suc k) b zero = let e : 0 ≡ min (suc k) 0 = omega arith in ap (range_with_len b) e
-counting_take (suc k) b (suc n) =
-    let e : suc (min k n) ≡ min (suc k) (suc n) = omega arith in
-    ap (λ l. b ∷ l) (counting_take k (b + 1) n) ∙ ap (range_with_len b) e
-
-counting_drop : (a b n : ℕ) → drop a (range_with_len b n) ≡ range_with_len (b + a) (n - a)
-counting_drop zero b n = let e : n ≡ n - 0 = omega arith in ap (range_with_len b) e ∙ ap (λ x. range_with_len x (n - 0)) (sym (add-zero b))
-counting_drop (suc a) b zero = let e : 0 ≡ 0 - suc a = omega arith in ap (range_with_len (b + suc a)) e
-counting_drop (suc a) b (suc n) =
-    let e : n - a ≡ suc n - suc a = omega arith in
-    let f : b + 1 + a ≡ b + suc a = omega arith in
-    counting_drop a (b + 1) n ∙ ap (λ x. range_with_len x (n - a)) f ∙ ap (range_with_len (b + suc a)) e
-
--- the rows from a on, at most k, of n
-pub rows_part : {X : Type 0} (f : ℕ → X) (k a n : ℕ) → take k (drop a (map f (range_with_len 0 n))) ≡ map f (range_with_len a (min k (n - a)))
-rows_part f k a n =
-    ap (take k) (drop-map f a (range_with_len 0 n)) ∙ take-map f k (drop a (range_with_len 0 n))
-    ∙ ap (map f) (ap (take k) (counting_drop a 0 n ∙ ap (λ x. range_with_len x (n - a)) (zero-add a)) ∙ counting_take k a (n - a))

@@ -8,7 +8,8 @@ use Rattle.claims.specs.declared.fixtures.Fixture.{Fixture}
 use Rattle.floors.specs.Bytes.{le_bytes, le_value, Octets, i64_at, i64_bytes}
 use Rattle.floors.specs.Blocks.{numbers_at, plate_at, fixture_at, plate_record, fixture_record}
 use Rattle.floors.proofs.LittleEndian.{le_bytes_value, le_value_below, le_value_bytes}
-use Rattle.floors.proofs.Pieces.{joined_map, joined_same, pieces}
+use Rattle.std.proofs.lemmas.List.Folds.{flat_map-map}
+use Rattle.floors.proofs.Pieces.{joined_same, pieces}
 
 -- a part of octets is octets
 pub octets_part : (bs : List ℕ) (at n : ℕ) → Octets bs → Octets (take n (drop at bs))
@@ -51,14 +52,14 @@ module _ (bs : List ℕ) (octets : Octets bs) where
   pub plate_part : (at : ℕ) → at + 72 ≤ length bs → plate_record (plate_at bs at) ≡ take 72 (drop at bs)
   unfolding numbers_at
   plate_part at h =
-      joined_map i64_bytes (λ k. i64_at bs (at + 8 * k)) (range_with_len 0 9)
+      flat_map-map i64_bytes (λ k. i64_at bs (at + 8 * k)) (range_with_len 0 9)
       ∙ joined_same (λ k. i64_bytes (i64_at bs (at + 8 * k))) (λ k. take 8 (drop (at + 8 * k) bs)) 0 9 (λ k p q. i64_part (at + 8 * k) (omega arith))
       ∙ pieces bs 8 at 0 9 ∙ ap (λ a. take 72 (drop a bs)) (add-zero at)
 
   -- the records of n fixtures
   pub fixtures_part : (at n : ℕ) → at + 36 * n ≤ length bs → flat_map fixture_record (map (λ j. fixture_at bs (at + 36 * j)) (range_with_len 0 n)) ≡ take (36 * n) (drop at bs)
   fixtures_part at n h =
-      joined_map fixture_record (λ j. fixture_at bs (at + 36 * j)) (range_with_len 0 n)
+      flat_map-map fixture_record (λ j. fixture_at bs (at + 36 * j)) (range_with_len 0 n)
       ∙ joined_same (λ k. fixture_record (fixture_at bs (at + 36 * k))) (λ k. take 36 (drop (at + 36 * k) bs)) 0 n (λ k p q. fixture_part (at + 36 * k) (omega arith))
       ∙ rw add-zero at (pieces bs 36 at 0 n)
 

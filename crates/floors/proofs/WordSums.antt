@@ -32,8 +32,8 @@ pub ruleset words_of = (word_sum_chunk, word_sum_even, word_sum_odd)
 -- an even number of bytes, and then more
 pub word_sum_append : (m : ℕ) (xs ys : List ℕ) → length xs ≡ 2 * m → word_sum (xs ++ ys) ≡ word_sum xs + word_sum ys
 word_sum_append m [] ys h = omega arith
-word_sum_append m (a ∷ []) ys h = let z : ⊥ = omega arith in absurd z
-word_sum_append zero (a ∷ (b ∷ xs)) ys h = let z : ⊥ = omega arith in absurd z
+word_sum_append m (a ∷ []) ys h = absurd (omega arith)
+word_sum_append zero (a ∷ (b ∷ xs)) ys h = absurd (omega arith)
 word_sum_append (suc m) (a ∷ (b ∷ xs)) ys h = omega (arith, word_sum_append m xs ys (omega arith))
 
 -- a sealed body sums to 0
@@ -43,10 +43,10 @@ sealed_sum m body h =
     omega (arith, s)
 
 pair : (xs : List ℕ) → length xs ≡ 2 → xs ≡ get_or xs 0 0 ∷ (get_or xs 1 0 ∷ [])
-pair [] h = let z : ⊥ = omega arith in absurd z
-pair (a ∷ []) h = let z : ⊥ = omega arith in absurd z
+pair [] h = absurd (omega arith)
+pair (a ∷ []) h = absurd (omega arith)
 pair (a ∷ (b ∷ [])) h = refl
-pair (a ∷ (b ∷ (c ∷ xs))) h = let z : ⊥ = omega arith in absurd z
+pair (a ∷ (b ∷ (c ∷ xs))) h = absurd (omega arith)
 
 octets_pair : (x y : ℕ) → x < 256 → y < 256 → Octets (x ∷ (y ∷ []))
 octets_pair x y p q zero = p

@@ -67,7 +67,7 @@ counts n m c last few h e is_last =
     (cases_eq (m + 2) n)
 
 blocks_count : (n last : ℕ) → 1 ≤ n → n ≤ 80 → ((i : ℕ) → i + 1 ≡ n → nearest_count n i last ≡ last) → n ≡ blocks_for (13 * (n - 2) + last)
-blocks_count zero last a b e = let w : ⊥ = omega arith in absurd w
+blocks_count zero last a b e = absurd (omega arith)
 blocks_count (suc zero) last a b e = let z = e 0 refl in omega arith
 blocks_count (suc (suc m)) last a b e =
     let z = rw (eq-eqb (m + 2) (suc (suc m)) (omega arith)) at (e (suc m) (omega arith)) in omega arith
