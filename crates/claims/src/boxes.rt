@@ -9,6 +9,8 @@ pub struct Span {
     pub high: i64,
 }
 
+// Claims, reaches and fixtures have a span on each axis, and no box of their own around the two: whatever reads them takes one axis at a time, but for the check of the order of edges.
+
 // A claim: the thing with this label is in the box now, and leaves it on no side faster than speed.
 #[derive(Clone, Copy, Debug, PartialEq, Eq)]
 pub struct Claim {

@@ -20,6 +20,8 @@ const EVERYWHERE: Span = Span {
     high: END,
 };
 
+// The two below differ in their side, which no type or number says.
+
 // All that lies before a span.
 fn before(span: &Span) -> Span
     requires { near span.now.low ≡ true }
