@@ -1,6 +1,7 @@
 // The floor file, by subject; `samples`, `damage` and `answers` hold what the tests share.
 mod answers;
 mod damage;
+mod faults;
 mod fixture_records;
 mod frames;
 mod lengths;

@@ -5,24 +5,14 @@ use std::test::Fail;
 
 // Sets a byte.
 pub(super) fn put(bytes: &mut [u8], at: usize, value: u8) -> Result<(), Fail> {
-    match bytes.get_mut(at) {
-        Some(byte) => {
-            *byte = value;
-            Ok(())
-        }
-        None => Err(Fail::new("no such byte")),
-    }
+    *bytes.get_mut(at).ok_or("no such byte")? = value;
+    Ok(())
 }
 
 // Changes one bit of a byte.
 pub(super) fn flip(bytes: &mut [u8], at: usize) -> Result<(), Fail> {
-    match bytes.get_mut(at) {
-        Some(byte) => {
-            *byte ^= 0x40;
-            Ok(())
-        }
-        None => Err(Fail::new("no such byte")),
-    }
+    *bytes.get_mut(at).ok_or("no such byte")? ^= 0x40;
+    Ok(())
 }
 
 // Makes the words of a block sum to a multiple of 65,536 again, by its checksum.
@@ -30,10 +20,8 @@ pub(super) fn seal(rt: &impl Abort, bytes: &mut [u8], block: usize) {
     assert!(rt; block < 80);
     let start = 512 * block;
     assert!(rt; start + 512 <= bytes.len());
-    let sum = sum_of_words(&bytes[start..start + 510]);
-    let [low, high] = sum.wrapping_neg().to_le_bytes();
-    bytes[start + 510] = low;
-    bytes[start + 511] = high;
+    let (body, checksum) = bytes[start..start + 512].split_at_mut(510);
+    checksum.copy_from_slice(&sum_of_words(body).wrapping_neg().to_le_bytes());
 }
 
 // Sets a byte and seals its block.

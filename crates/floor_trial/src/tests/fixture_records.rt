@@ -1,8 +1,9 @@
 // 55: the five numbers of each record make a fixture.
 use crate::tests::answers::{no_fixture, read_as, refused, wrong_byte};
 use crate::tests::damage::{change, change_number};
-use crate::tests::samples::{BOX, SAMPLE, file_of, three_blocks};
-use claims::{Fixture, Span};
+use crate::tests::samples::{BOX, file_of, three_blocks};
+use claims::{Fixture, FixtureField, Span, ThingFault};
+use runout::SAMPLE;
 use std::process::Abort;
 use std::test::Fail;
 
@@ -12,11 +13,16 @@ const RECORDS: [(usize, usize, usize); 3] = [(520, 1, 8), (952, 1, 440), (1_032,
 // Each edge of a record, just too far and as far as can be; the fault names the field.
 fn far_edges(rt: &impl Abort, at: usize, block: usize, byte: usize) -> Result<(), Fail> {
     let good = three_blocks(rt)?;
-    for (from, field) in [(4, 2), (12, 3), (20, 4), (28, 5)] {
+    for (from, field) in [
+        (4, FixtureField::LowX),
+        (12, FixtureField::HighX),
+        (20, FixtureField::LowY),
+        (28, FixtureField::HighY),
+    ] {
         for value in [-2_000_000_000_001, 2_000_000_000_001, i64::MIN, i64::MAX] {
             let mut bytes = good;
             change_number(rt, &mut bytes, at.saturating_add(from), value)?;
-            refused(rt, &bytes, no_fixture(block, byte, 21, field))?;
+            refused(rt, &bytes, no_fixture(block, byte, field.into()));
         }
     }
     Ok(())
@@ -38,7 +44,11 @@ fn edges_in_the_wrong_order_are_refused(rt: HostRuntime) -> Result<(), Fail> {
         for (from, value) in [(4, 2_000_000_000_000), (28, -2_000_000_000_000)] {
             let mut bytes = good;
             change_number(&rt, &mut bytes, at.saturating_add(from), value)?;
-            refused(&rt, &bytes, no_fixture(block, byte, 22, 0))?;
+            refused(
+                &rt,
+                &bytes,
+                no_fixture(block, byte, ThingFault::LowAboveHigh),
+            );
         }
     }
     Ok(())
@@ -51,7 +61,7 @@ fn a_low_edge_is_at_most_the_high_one(rt: HostRuntime) -> Result<(), Fail> {
     for (at, value) in [(524, 1_100_000_001), (540, 500_000_001)] {
         let mut bytes = good;
         change_number(&rt, &mut bytes, at, value)?;
-        refused(&rt, &bytes, no_fixture(1, 8, 22, 0))?;
+        refused(&rt, &bytes, no_fixture(1, 8, ThingFault::LowAboveHigh));
     }
     let point = Fixture {
         label: 7,
@@ -91,15 +101,16 @@ fn the_largest_fixture_is_read(rt: HostRuntime) -> Result<(), Fail> {
 fn the_first_bad_record_is_named(rt: HostRuntime) -> Result<(), Fail> {
     let mut bytes = three_blocks(&rt)?;
     change_number(&rt, &mut bytes, 1_044, i64::MAX)?;
-    refused(&rt, &bytes, no_fixture(2, 8, 21, 3))?;
+    refused(&rt, &bytes, no_fixture(2, 8, FixtureField::HighX.into()));
     change_number(&rt, &mut bytes, 956, 2_000_000_000_000)?;
-    refused(&rt, &bytes, no_fixture(1, 440, 22, 0))?;
+    refused(&rt, &bytes, no_fixture(1, 440, ThingFault::LowAboveHigh));
     change_number(&rt, &mut bytes, 956, 2_000_000_000_001)?;
-    refused(&rt, &bytes, no_fixture(1, 440, 21, 2))?;
+    refused(&rt, &bytes, no_fixture(1, 440, FixtureField::LowX.into()));
     change_number(&rt, &mut bytes, 576, i64::MIN)?;
-    refused(&rt, &bytes, no_fixture(1, 44, 21, 4))?;
+    refused(&rt, &bytes, no_fixture(1, 44, FixtureField::LowY.into()));
     change_number(&rt, &mut bytes, 548, i64::MIN)?;
-    refused(&rt, &bytes, no_fixture(1, 8, 21, 5))?;
+    refused(&rt, &bytes, no_fixture(1, 8, FixtureField::HighY.into()));
     change(&rt, &mut bytes, 1_021, 1)?;
-    refused(&rt, &bytes, wrong_byte(1, 509))
+    refused(&rt, &bytes, wrong_byte(1, 509));
+    Ok(())
 }

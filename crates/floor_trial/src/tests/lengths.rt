@@ -1,6 +1,8 @@
 // 51: a file is 1 to 80 whole blocks.
-use crate::tests::answers::{WRONG_LENGTH, read_as, refused};
-use crate::tests::samples::{SAMPLE, fixtures, longest};
+use crate::tests::answers::{read_as, refused};
+use crate::tests::samples::{fixtures, longest};
+use floors::BlockFault;
+use runout::SAMPLE;
 use std::process::Abort;
 use std::test::Fail;
 
@@ -18,8 +20,8 @@ fn other_lengths_than_of_1_to_80_blocks_are_refused(rt: HostRuntime) -> Result<(
         refused(
             &rt,
             bytes.get(0..length).ok_or("too few bytes")?,
-            WRONG_LENGTH,
-        )?;
+            BlockFault::WrongLength,
+        );
     }
     Ok(())
 }

@@ -1,21 +1,10 @@
-// The plate, the fixtures and the files that the tests begin with.
+// The fixtures and the files that the tests begin with.
 use claims::{Fixture, Span};
 use floor_writer::write_floor;
 use plates::{Plate, PlateFields};
+use runout::SAMPLE;
 use std::process::Abort;
 use std::test::Fail;
-
-pub(super) const SAMPLE: PlateFields = PlateFields {
-    brake: 1_200,
-    pull: 800,
-    drive_error: 200,
-    hold: 100,
-    speed_error: 10_000,
-    place_error: 20_000_000,
-    top_speed: 2_000_000,
-    turn_limit: 500,
-    half_side: 400_000_000,
-};
 
 pub(super) const BOX: Fixture = Fixture {
     label: 7,
@@ -29,13 +18,6 @@ pub(super) const BOX: Fixture = Fixture {
     },
 };
 
-// The fixture whose every field is 0.
-pub(super) const ZERO: Fixture = Fixture {
-    label: 0,
-    x: Span { low: 0, high: 0 },
-    y: Span { low: 0, high: 0 },
-};
-
 // What stands in a table before it is read into. No file holds it, as its low edges are above its high ones.
 pub(super) const OLD: Fixture = Fixture {
     label: 99,
@@ -45,14 +27,6 @@ pub(super) const OLD: Fixture = Fixture {
 
 // What stands in the bytes before they are written over.
 pub(super) const OLD_BYTE: u8 = 0xa5;
-
-// A test goes on with a plate or fails.
-pub(super) fn made(fields: PlateFields) -> Result<Plate, Fail> {
-    match Plate::new(fields) {
-        Ok(plate) => Ok(plate),
-        Err(_) => Err(Fail::new("no plate")),
-    }
-}
 
 // A fixture for each label, no two with an edge in common.
 fn labelled(label: u32) -> Fixture {
@@ -72,10 +46,8 @@ fn labelled(label: u32) -> Fixture {
 
 // So many fixtures, with the labels from 1 on.
 pub(super) fn fixtures<const N: usize>() -> [Fixture; N] {
-    let mut rows = [ZERO; N];
-    let mut label = 0u32;
-    for row in rows.iter_mut() {
-        label = label.wrapping_add(1);
+    let mut rows = [Fixture::default(); N];
+    for (row, label) in rows.iter_mut().zip(1..) {
         *row = labelled(label);
     }
     rows
@@ -87,12 +59,8 @@ pub(super) fn file_of<const N: usize>(
     fields: PlateFields,
     rows: &[Fixture],
 ) -> Result<[u8; N], Fail> {
-    let plate = made(fields)?;
     let mut bytes = [0; N];
-    match write_floor(&plate, rows, &mut bytes) {
-        Ok(length) => assert_eq!(rt; length, N),
-        Err(_) => return Err(Fail::new("not written")),
-    }
+    assert_eq!(rt; write_floor(&Plate::new(fields)?, rows, &mut bytes)?, N);
     Ok(bytes)
 }
 

@@ -1,8 +1,9 @@
 // Floors of each size.
 use crate::tests::answers::{all_old, read_as, written};
-use crate::tests::samples::{OLD_BYTE, SAMPLE, fixtures};
+use crate::tests::samples::{OLD_BYTE, fixtures};
 use claims::Fixture;
 use floors::sum_of_words;
+use runout::SAMPLE;
 use std::process::Abort;
 use std::test::Fail;
 

@@ -1,8 +1,9 @@
 // What is written, byte by byte.
 use crate::tests::answers::{holds, read_as, written};
-use crate::tests::samples::{BOX, OLD, SAMPLE, ZERO, file_of, fixtures, three_blocks};
+use crate::tests::samples::{BOX, OLD, file_of, fixtures, three_blocks};
 use claims::{Fixture, Span};
 use floors::sum_of_words;
+use runout::SAMPLE;
 use std::test::Fail;
 
 // The heads, the nine fields and the four edges of the sample floor: where each stands, and its bytes.
@@ -98,5 +99,6 @@ fn a_row_that_is_no_fixture_is_written_as_zeros(rt: HostRuntime) -> Result<(), F
     for at in [556, 628, 664] {
         holds(&rt, &bytes, at, &[0; 36]);
     }
-    read_as(&rt, &bytes, SAMPLE, &[BOX, ZERO, BOX, ZERO, ZERO, BOX])
+    let zero = Fixture::default();
+    read_as(&rt, &bytes, SAMPLE, &[BOX, zero, BOX, zero, zero, BOX])
 }
