@@ -1,4 +1,4 @@
--- The checks of an open gate, step by step. Assumes nothing.
+-- The state in which a refused tick leaves an open gate. Assumes nothing.
 use Rattle.std.proofs.Common.{◌≡◌, Some, ap, arith}
 use Rattle.plates.specs.declared.plates.Plate.{Plate}
 use Rattle.gate.specs.declared.faults.TickFault.{TickFault}
@@ -9,7 +9,7 @@ use Rattle.gate.specs.declared.gates.Gate.{Gate}
 use Rattle.gate.specs.Gates.{tripped, tripped_by, after_tick}
 use Rattle.gate.specs.Checks.{Tick, blocked, run_out_checked, open_refused}
 
--- a refused tick leaves an open gate as its fault says
+-- a measurement out of its ranges is the only reason that trips, and it is the fault
 trips : (p : Plate) (t : Tick) (fault : TickFault) → open_refused p t ≡ Some (tick_fault fault) → tripped Open t.measured ≡ tripped_by fault
 unfolding open_refused run_out_checked blocked tripped_by
 trips p t fault h = grind arith

@@ -1,7 +1,8 @@
 -- The world that justifies a refusal as blocked: the cart goes as fast as it may towards a point in both its reach and the claim. Assumes nothing.
-use Rattle.std.proofs.Common.{◌≡◌, ℕ, suc, ◌+◌, ◌-◌, ◌<◌, ◌≤◌, cond, eqb, ◌⊎◌, List, [], ◌∷◌, ◌++◌, ℤ, pos, ◌+ℤ◌, ◌-ℤ◌, neg_ℤ, nat_abs, ◌≤ℤ◌, Some, sym, refl, ap, ◌∙◌, subst, inl, inr, ⊎_elim, zero-add, arith}
+use Rattle.std.proofs.Common.{◌≡◌, ℕ, suc, ◌+◌, ◌-◌, ◌<◌, ◌≤◌, cond, eqb, ◌⊎◌, [], ◌∷◌, ℤ, pos, ◌+ℤ◌, ◌-ℤ◌, neg_ℤ, nat_abs, ◌≤ℤ◌, Some, sym, refl, ap, ◌∙◌, subst, inl, inr, ⊎_elim, zero-add, arith}
 use Rattle.std.specs.Int.{int_max, int_min}
-use Rattle.std.specs.List.{AllByRecursion}
+use Rattle.std.specs.List.{AllByRecursion, Contains}
+use Rattle.std.proofs.lemmas.List.Elements.{All-contains, All-from_recursion, Contains-append_left, Contains-append_right, Contains-push}
 use Rattle.std.proofs.lemmas.Int.{ints, clamps}
 use Rattle.std.proofs.lemmas.Bool.{cases_lt}
 use Rattle.plates.specs.declared.plates.Plate.{Plate}
@@ -129,15 +130,11 @@ module _ (p : Plate) (t : Tick) (claim : Claim) (sound : Sound claim) (k : Stopp
     touches = touches;
   }
 
--- a claim in the middle of a list that is within limits is so itself
-middle : (front : List Claim) (claim : Claim) (back : List Claim) → AllByRecursion Sound (front ++ claim ∷ back) → Sound claim
-middle [] claim back h = h.0
-middle (c ∷ front) claim back h = middle front claim back h.1
-
 pub collides : (p : Plate) (t : Tick) (claim : Claim) → AllByRecursion Sound t.claims → open_refused p t ≡ Some (tick_fault (Blocked claim)) → Collision p t claim
 collides p t claim all h =
     let k = stopped p t claim h in
     let first : FirstBlocking t.claims (reach_of p t) (Some claim) = subst (FirstBlocking t.claims (reach_of p t)) k.first (first_is (reach_of p t) t.claims) in
-    let sound = middle first.0 claim first.1 (subst (AllByRecursion Sound) first.2 all) in
+    let has = subst (λ cs. Contains cs claim) (sym first.2) (Contains-append_right first.0 (claim ∷ first.1) claim (Contains-append_left (claim ∷ []) first.1 claim (Contains-push [] claim))) in
+    let sound = All-contains Sound t.claims claim (All-from_recursion Sound t.claims all) has in
     let one : (run_of p t).time ≡ suc ((run_of p t).time - 1) = omega (arith, k.long) in
     collision p t claim sound k ((run_of p t).time - 1) one first.4

@@ -15,7 +15,7 @@ use Rattle.claims.specs.Limits.{Sound}
 use Rattle.claims.proofs.BlockLaws.{covers_later}
 use Rattle.surroundings.specs.Asking.{Clear, FirstBlocking}
 use Rattle.surroundings.proofs.AskLaws.{first_is}
-use Rattle.gate.specs.declared.faults.TickFault.TheVariants.{Tripped, Blocked}
+use Rattle.gate.specs.declared.faults.TickFault.TheVariants.{Blocked}
 use Rattle.gate.specs.declared.gates.Gate.{Gate}
 use Rattle.gate.specs.declared.parts.Curve.{Curve}
 use Rattle.gate.specs.declared.parts.Curve.TheVariants.{Straight, Arc}
@@ -25,7 +25,7 @@ use Rattle.gate.specs.Faults.{tick_fault}
 use Rattle.gate.specs.Checks.{Tick, reach_from, open_refused}
 use Rattle.gate.specs.Gates.{refused_in, tick_refused, order_by, tick_order, left_by, release_refused, opened_by}
 use Rattle.gate.specs.World.{Near, Point, Cart, used, Millisecond, Moves, Measures, Touches, Happening, tick, Accepted, World, driven, Happens, accepted, refused, released, passed, Run, start, next, Turns, SpeedKept, Untouched, Justified, Guarded}
-use Rattle.gate.proofs.Passing.{run_of, reach_of, not_tripped}
+use Rattle.gate.proofs.Passing.{run_of, reach_of}
 use Rattle.gate.proofs.Motion.{changed_braking, speed_at, Bounded, bounded_more, begins}
 use Rattle.gate.proofs.Colliding.{collides}
 
@@ -40,11 +40,11 @@ record Known (p : Plate) (w : World) : Type 0 where
 
 open_none : (s : State) (p : Plate) (t : Tick) → refused_in s p t ≡ None → open_refused p t ≡ None
 open_none Open p t h = h
-open_none (TrippedBy field) p t h = let z : ◌≡◌ {A = ℕ} 0 1 = cc in absurd (omega arith)
+open_none (TrippedBy field) p t h = cc
 
 open_blocked : (s : State) (p : Plate) (t : Tick) (claim : Claim) → refused_in s p t ≡ Some (tick_fault (Blocked claim)) → open_refused p t ≡ Some (tick_fault (Blocked claim))
 open_blocked Open p t claim h = h
-open_blocked (TrippedBy field) p t claim h = not_tripped (tick_fault Tripped) claim (λ e. omega arith) h
+open_blocked (TrippedBy field) p t claim h = absurd (grind arith)
 
 left_plate : (g : Gate) (t : Tick) (o : Option Refusal) → (left_by g t o).plate ≡ g.plate
 left_plate g t None = refl
