@@ -16,7 +16,6 @@ use Rattle.floors.specs.declared.faults.BlockFault.{BlockFault}
 use Rattle.floors.specs.Bytes.{Octets}
 use Rattle.floors.specs.Floors.{block_in, refused_in, floor_refused, plate_in, fixture_count, row_in, fixtures_in}
 use Rattle.floors.proofs.Exact.{read_was_written, read_if_written}
-use Rattle.floors.proofs.Files.{count_few}
 use Rattle.floors.proofs.Firsts.{first_among_more}
 use Rattle.floors.proofs.Frames.{frame_few, block_row_fault, block_no_fault}
 use Rattle.floor_reader.specs.declared.reading.Floor.{Floor}
@@ -68,9 +67,6 @@ module _ (bytes : List ℕ) (table : List Fixture) where
         only = rw (plate, rows) (w.writable, w.same);
         every = λ p fs m e h. let b = read_if_written bytes p fs m e in (plate ∙ b.plate_is, rows ∙ b.rows_are);
       }
-
--- what the reader needs at its returns
-pub ruleset reading = (count_few, exact_refused, exact_short, exact_read)
 
 -- from the records of a block to its refusal
 pub ruleset counting = (frame_few, block_row_fault, block_no_fault, first_among_more)

@@ -110,7 +110,7 @@ impl Block<'_> {
     }
 
     // Whether every byte of the head is right, and every unused byte 0.
-    #[tactic(auto, using(floors::proofs::Departing::wrong_head, floors::proofs::Departing::right_head))]
+    #[tactic(auto, using(floors::proofs::Departing::wrong_head))]
     fn check_bytes(&self) -> Result<(), BlockFault>
         ensures { Answers block_fault (byte_refused self.now.total self.now.number self.now.bytes.now) (λ _. Unit {0}) result }
     {

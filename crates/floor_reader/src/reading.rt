@@ -14,7 +14,7 @@ use floors::{BLOCK, BlockFault, FIRST_RECORD, FIXTURE_RECORD, MOST_BLOCKS, MOST_
 use plates::Plate;
 
 // What was read of a floor: its plate, and how many fixtures are now in the table.
-#[derive(Clone, Copy)]
+#[derive(Clone, Copy, Debug, PartialEq, Eq)]
 pub struct Floor {
     pub plate: Plate,
     pub count: usize,
@@ -71,7 +71,7 @@ fn fill_table(bytes: &[u8], table: &mut [Fixture], count: usize)
 
 // Reads a floor file into the first rows of a table, and answers its plate and how many fixtures it has. The other rows, and after a refusal all, are as they were.
 // The table is handed in, and the count is answered beside it, as nothing here takes memory while it runs.
-#[tactic(auto, using(crate::proofs::ReadLaws::reading), unfolding(floors::specs::Floors::fixtures_in))]
+#[tactic(auto, using(floors::proofs::Files::count_few), unfolding(floors::specs::Floors::fixtures_in))]
 pub fn read_floor(bytes: &[u8], table: &mut [Fixture]) -> Result<Floor, BlockFault>
     ensures answer { Answers block_fault (read_refused bytes.now (length table.old)) (Holds bytes.now) result }
     ensures table { table.new ≡ table_after result bytes.now table.old }

@@ -12,7 +12,7 @@ use floors::{BlockFault, FIRST_RECORD, FIXTURE_RECORD, RecordFault};
 use plates::{Plate, PlateFields};
 
 // The row of the fixture's record that begins at a byte.
-#[tactic(auto, using(std::proofs::lemmas::Grind::common_steps), unfolding(floors::specs::Blocks::fixture_at))]
+#[tactic(auto, unfolding(floors::specs::Blocks::fixture_at))]
 pub(crate) fn fixture_row(bytes: &[u8], byte: usize) -> Fixture
     requires { byte + 36 ≤ length bytes.now }
     ensures { result ≡ fixture_at bytes.now byte }
@@ -31,7 +31,6 @@ pub(crate) fn fixture_row(bytes: &[u8], byte: usize) -> Fixture
 }
 
 // The numbers of the plate's record that begins at a byte.
-#[tactic(auto, unfolding(floors::specs::Blocks::numbers_at))]
 fn plate_numbers(bytes: &[u8], byte: usize) -> [i64; 9]
     requires { byte + 72 ≤ length bytes.now }
     ensures { result ≡ numbers_at bytes.now byte }
