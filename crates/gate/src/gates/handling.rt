@@ -68,6 +68,7 @@ impl Gate {
         // A release has no surroundings: the roster names only a type of them.
         match self.handle::<Roster<Fixture>>(Event::Release(measured)) {
             Answer::Release(answer) => answer,
+            // Proved not to come, as in `tick`.
             Answer::Tick(_) => unreachable!(),
         }
     }
