@@ -27,7 +27,7 @@ pub(crate) struct Block<'a> {
 
 // Where the first byte that is not 0 stands past a block's `used` bytes of records, counted from there; `rest` is the block past its head.
 fn wrong_in_rest(rest: &[u8], used: usize) -> Option<usize>
-    requires { (length rest.now ≡ 504) × (used ≤ 502) }
+    requires { (length rest.now ≡ 504) × (used ≤ 468) }
     ensures { result ≡ position (λ byte. not (byte == 0)) (slice_range rest.now used 502) }
 {
     let unused = &rest[used..CHECKSUM - FIRST_RECORD];
