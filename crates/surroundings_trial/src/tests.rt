@@ -2,8 +2,8 @@
 use super::*;
 use std::test::Fail;
 use surroundings::{
-    Claim, Fault, Fixture, Kind, Mover, Pair, Reach, Roster, Row, Seen, Span, Surroundings, ThingFault,
-    ask,
+    Claim, Fault, Fixture, Kind, Mover, Pair, Reach, Roster, Row, Seen, Span, Surroundings,
+    ThingFault, ask,
 };
 
 const fn span(low: i64, high: i64) -> Span {
