@@ -1,8 +1,7 @@
 -- What is written is read again. Assumes nothing.
-use Rattle.std.proofs.Common.{◌≡◌, ℕ, ◌+◌, ◌^◌, ◌<◌, ◌≤◌, false, List, [], ◌∷◌, map, length, get_or, take, drop, is_some, Some, None, Option, sym, refl, ap, ◌∙◌, subst, arith}
+use Rattle.std.proofs.Common.{◌≡◌, ℕ, ◌^◌, ◌<◌, ◌≤◌, false, List, [], ◌∷◌, map, length, take, drop, is_some, Some, None, Option, sym, refl, ap, ◌∙◌, subst, arith}
 use lib.ListN.{length-map}
-use Rattle.std.proofs.ByRecursion.{All-push}
-use Rattle.std.proofs.lemmas.List.{take_at, take_all, take_more}
+use Rattle.std.proofs.lemmas.List.{take_at}
 use Rattle.std.proofs.lemmas.Bool.{cond_both, true≢false}
 use Rattle.std.specs.List.{AllByRecursion}
 use Rattle.refusals.specs.Refusals.{Refusal}
@@ -13,15 +12,11 @@ use Rattle.claims.specs.declared.fixtures.Fixture.{Fixture}
 use Rattle.claims.specs.Things.{zero_fixture, fixture_refused, fixture_counted}
 use Rattle.floors.specs.Exactness.{Made, Writable, Reads}
 use Rattle.floors.proofs.Exact.{written_is_read}
-use Rattle.floors.proofs.ReadingBack.{length_file}
-use Rattle.floor_writer.specs.Writing.{file_length, file_of, over, Labelled}
+use Rattle.floor_writer.specs.Writing.{file_of, over, Labelled}
 
 none : (o : Option Refusal) → is_some o ≡ false → o ≡ None
 none None e = refl
 none (Some r) e = absurd (true≢false e)
-
-pub length_file_of : (plate : Plate) (rows : List Fixture) → length (file_of plate rows) ≡ file_length (length rows)
-length_file_of plate rows = length_file (held plate) (map fixture_counted rows) ∙ ap file_length (length-map rows fixture_counted)
 
 -- what a row counts as can be made
 counted_made : (f : Fixture) → f.label < 2 ^ 32 → Made (fixture_counted f)
@@ -33,14 +28,6 @@ counted_made f h =
 rows_made : (rows : List Fixture) → AllByRecursion Labelled rows → AllByRecursion Made (map fixture_counted rows)
 rows_made [] h = tt
 rows_made (f ∷ rows) h = (counted_made f h.0, rows_made rows h.1)
-
--- the labels of one row more, and of all
-pub labels_more : (rows : List Fixture) (i : ℕ) → i < length rows → AllByRecursion Labelled (take i rows) → Labelled (get_or rows i zero_fixture) → AllByRecursion Labelled (take (i + 1) rows)
-labels_more rows i h before here =
-    subst (AllByRecursion Labelled) (sym (take_more rows i zero_fixture h)) (All-push Labelled (take i rows) (get_or rows i zero_fixture) before here)
-
-pub labels_all : (rows : List Fixture) (i : ℕ) → length rows ≤ i → AllByRecursion Labelled (take i rows) → AllByRecursion Labelled rows
-labels_all rows i h labels = subst (AllByRecursion Labelled) (take_all i rows h) labels
 
 -- what is written is read again
 pub written_again : (plate : Plate) (rows : List Fixture) (out after : List ℕ) (n : ℕ) → AllByRecursion Labelled rows → length rows ≤ 1024

@@ -1,8 +1,8 @@
 -- What one write after another leaves. Assumes nothing.
-use Rattle.std.proofs.Common.{◌≡◌, ℕ, zero, suc, ◌+◌, ◌-◌, ◌*◌, ◌<◌, ◌≤◌, List, [], ◌∷◌, ◌++◌, map, length, get_or, take, drop, replicate, sym, refl, ap, ◌∙◌, add-zero, arith, length-append, take-add}
+use Rattle.std.proofs.Common.{◌≡◌, ℕ, zero, suc, ◌+◌, ◌-◌, ◌*◌, ◌<◌, ◌≤◌, List, [], ◌∷◌, ◌++◌, map, length, get_or, take, drop, replicate, sym, refl, ap, ◌∙◌, arith, length-append, take-add}
 use Rattle.std.proofs.lemmas.List.FromFn.{length-range_with_len, map-range_with_len_more}
 use Rattle.std.proofs.lemmas.List.Edits.{paste_all, paste-paste}
-use Rattle.std.proofs.lemmas.List.{length-map, take-map, drop-map, length-take, append_assoc, append-nil, take_more, flat_map_more, take-replicate, drop-replicate, length-take-le, take_at, drop_all, take-append-drop, drop_at, drop-drop, map-id}
+use Rattle.std.proofs.lemmas.List.{length-map, take-map, drop-map, length-take, append_assoc, append-nil, take_more, flat_map_more, take-replicate, drop-replicate, length-take-le, take_at, drop_all, drop_at, drop-drop, map-id}
 use Rattle.std.specs.List.{range_with_len, flat_map}
 use lib.Seq.{paste}
 use Rattle.plates.specs.declared.fields.PlateFields.{PlateFields}
@@ -31,9 +31,6 @@ written_on d at s t b at' h e q =
 
 -- one more record
 module _ {X : Type 0} (g : X → List ℕ) (size : ℕ) (sized : (x : X) → length (g x) ≡ size) where
-  pub records_none : (d : List ℕ) (at : ℕ) (xs : List X) → d ≡ written d at (flat_map g (take 0 xs))
-  records_none d at xs = sym (take-append-drop at d) ∙ ap (λ n. take at d ++ drop n d) (sym (add-zero at))
-
   pub records_more : (d : List ℕ) (at : ℕ) (xs : List X) (k : ℕ) (z : X) (b : List ℕ) → at ≤ length d → k < length xs
       → b ≡ written d at (flat_map g (take k xs)) → written b (at + size * k) (g (get_or xs k z)) ≡ written d at (flat_map g (take (k + 1) xs))
   records_more d at xs k z b h l eb =

@@ -97,13 +97,14 @@ pub(crate) struct Contents<'a> {
 impl Contents<'_> {
     // The rows of block `number`; the plate's has none.
     fn rows_in(&self, number: usize) -> &[Fixture]
-        requires { 13 * (number - 1) ≤ length self.now.rows.now }
         ensures { result.now ≡ rows_in self.now.rows.now number }
     {
         match BlockKind::of(number) {
             BlockKind::Plate => &[],
             BlockKind::Fixtures => {
-                let from = MOST_IN_BLOCK * (number - 1);
+                let from = MOST_IN_BLOCK
+                    .saturating_mul(number - 1)
+                    .min(self.rows.len());
                 let to = (from + MOST_IN_BLOCK).min(self.rows.len());
                 &self.rows[from..to]
             }
@@ -112,7 +113,6 @@ impl Contents<'_> {
 
     // Writes the records of block `number`.
     fn put_records(&self, block: &mut [u8; BLOCK], number: usize)
-        requires { 13 * (number - 1) ≤ length self.now.rows.now }
         ensures { block.new ≡ written block.old 8 (records_in (held self.now.plate) (map fixture_counted self.now.rows.now) number) }
     {
         match BlockKind::of(number) {
@@ -123,7 +123,6 @@ impl Contents<'_> {
 
     // Block `number` of the file.
     pub(crate) fn block(&self, number: usize) -> [u8; BLOCK]
-        requires { 13 * (number - 1) ≤ length self.now.rows.now }
         ensures { result ≡ floor_block (held self.now.plate) (map fixture_counted self.now.rows.now) number }
     {
         let mut block = [0; BLOCK];

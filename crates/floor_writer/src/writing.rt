@@ -43,6 +43,7 @@ impl Contents<'_> {
         ensures read_again { Reads (take result out.new) (held self.now.plate) (map fixture_counted self.now.rows.now) }
     {
         let count = blocks_for(self.rows.len());
+        // By number: the library's contracts of `as_chunks_mut` and `chunks_exact_mut` do not say what the bytes are afterwards.
         for number in 0..count {
             put(out, BLOCK * number, &self.block(number));
         }

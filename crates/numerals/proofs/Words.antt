@@ -147,9 +147,6 @@ pub record ReadSoFar (text rest : List ℕ) (count : ℕ) (numbers : List ℤ) :
   pub many : length seen ≡ count
   pub read : numbers_in seen ≡ Some (take count numbers)
 
-pub nothing_read : (text rest : List ℕ) (numbers : List ℤ) → IsUtf8 text → rest ≡ text → ReadSoFar text rest 0 numbers
-nothing_read text rest numbers u e = record { seen = []; words = ap words_of (sym e); utf8 = subst IsUtf8 (sym e) u; many = refl; read = refl }
-
 module _ {text rest : List ℕ} {count : ℕ} {numbers : List ℤ} (before : ReadSoFar text rest count numbers) where
   -- one word more
   pub read_more : (word after : List ℕ) (n : ℤ) (new : List ℤ) → First rest word after → number_of word ≡ Some n → take (count + 1) new ≡ take count numbers ++ (n ∷ [])

@@ -6,7 +6,7 @@ use Rattle.floors.specs.Blocks.{fixture_record}
 use Rattle.claims.specs.Things.{fixture_counted, zero_fixture}
 use Rattle.floors.proofs.Pieces.{joined_map}
 use Rattle.floors.proofs.Records.{length_fixture}
-use Rattle.floor_writer.proofs.Writes.{records_none, records_more}
+use Rattle.floor_writer.proofs.Writes.{records_more}
 use Rattle.floor_writer.proofs.blocks.put_fixtures.Goals as goal
 
 pub returns : goal.returns
@@ -24,6 +24,3 @@ loop-j-preserved c =
     one
     ∙ records_more (λ f. fixture_record (fixture_counted f)) 36 (λ f. length_fixture (fixture_counted f)) c.args.block.now 8 c.args.rows.now j zero_fixture b
     (omega arith) (omega arith) c.loop-j.invariant
-
-pub loop-j-init : goal.loop-j-init
-loop-j-init c = records_none (λ f. fixture_record (fixture_counted f)) 36 (λ f. length_fixture (fixture_counted f)) c.args.block.now 8 c.args.rows.now

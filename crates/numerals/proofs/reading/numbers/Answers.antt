@@ -1,11 +1,8 @@
-use Rattle.std.proofs.Common.{rules, pos, length-set, ◌∷◌, [], ◌++◌, take, sym, ap, ◌∙◌, arith, w64, SFits}
+use Rattle.std.proofs.Common.{rules, length-set, ◌∷◌, [], ◌++◌, take, sym, ap, ◌∙◌, arith, w64, SFits}
 use Rattle.std.proofs.lemmas.Int.{to_z-of_z}
-use Rattle.std.proofs.lemmas.List.{take_more_set, length-replicate}
-use Rattle.numerals.proofs.Words.{nothing_read, read_more, no_number, too_few, too_many, all_read, no_word, first_word}
+use Rattle.std.proofs.lemmas.List.{take_more_set}
+use Rattle.numerals.proofs.Words.{read_more, no_number, too_few, too_many, all_read, no_word, first_word}
 use Rattle.numerals.proofs.reading.numbers.Goals as goal
-
-pub loop-value-init : goal.loop-value-init
-loop-value-init g c = (nothing_read c.args.text.now _ _ c.utf8.text c.split_whitespace-words.ensures.rest, length-replicate g.row.N (pos 0))
 
 pub loop-value-preserved : goal.loop-value-preserved
 loop-value-preserved g c =
