@@ -93,6 +93,7 @@ fn write_out(rt: &HostRuntime, plate: &Plate, rows: &[Fixture]) -> anyhow::Resul
     }
 }
 
+// How the program is called, where it was called in another way. Each program has these two lines with other words; a crate that gives them would make no program shorter.
 fn misused(rt: &HostRuntime) -> anyhow::Result<()> {
     eprintln!(rt; "{USAGE}")?;
     Err(anyhow!("floor_maker takes no arguments, and the lines of a floor on standard input"))

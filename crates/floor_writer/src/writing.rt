@@ -52,6 +52,7 @@ impl Contents<'_> {
 }
 
 // Writes the floor file of a plate and fixtures into the first bytes, and answers its length. A row that is no fixture is written as the fixture whose every field is 0. The other bytes, and after a refusal all, are as they were.
+// The bytes are handed in, and the length is answered beside them, as nothing here takes memory while it runs.
 pub fn write_floor(plate: &Plate, rows: &[Fixture], out: &mut [u8]) -> Result<usize, WriteFault>
     ensures answer { Answers write_fault (write_refused (length rows.now) (length out.old)) (λ n. n ≡ length (file_of plate.now rows.now)) result }
     ensures bytes { out.new ≡ bytes_after result (file_of plate.now rows.now) out.old }

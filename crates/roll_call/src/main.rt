@@ -25,6 +25,7 @@ fn list(rt: &HostRuntime, plate: Plate, fixtures: &[Fixture]) -> io::Result<()> 
     rt.println(CountLine(fixtures.len()))
 }
 
+// How the program is called, where it was called in another way. Each program has these two lines with other words; a crate that gives them would make no program shorter.
 fn misused(rt: &HostRuntime) -> anyhow::Result<()> {
     eprintln!(rt; "{USAGE}")?;
     Err(anyhow!("roll_call takes no arguments, and a floor file on standard input"))
@@ -37,6 +38,7 @@ fn run(rt: &HostRuntime) -> anyhow::Result<()> {
     let heap = rt.alloc();
     let mut bytes = Vec::new(heap);
     rt.stdin().take(MOST_BYTES).read_to_end(&mut bytes)?;
+    // a table that any floor fits into
     let mut table = vec![in heap; Fixture::default(); MOST]?;
     match read_floor(bytes.as_slice(), table.as_mut_slice()) {
         Ok(floor) => Ok(list(rt, floor.plate, &table[0..floor.count])?),
