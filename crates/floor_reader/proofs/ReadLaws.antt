@@ -54,8 +54,9 @@ module _ (bytes : List ℕ) (table : List Fixture) where
   exact_refused (Ok floor) e h f = absurd cc
   exact_refused (Err fault) e h f = exact_none fault (λ fine room. cc)
 
-  pub exact_short : (fault : BlockFault) → length table < fixture_count bytes → ReadExactly bytes table (Err fault) table
-  exact_short fault h = exact_none fault (λ fine room. omega arith)
+  pub exact_short : (r : Result Floor BlockFault) → IsErr r → length table < fixture_count bytes → ReadExactly bytes table r table
+  exact_short (Ok floor) e h = absurd cc
+  exact_short (Err fault) e h = exact_none fault (λ fine room. omega arith)
 
   pub exact_read : (floor : Floor) (after : List Fixture) → Written bytes → held floor.plate ≡ plate_in bytes → floor.count ≡ fixture_count bytes
       → after ≡ map (row_in bytes) (range_with_len 0 floor.count) ++ drop floor.count table → ReadExactly bytes table (Ok floor) after

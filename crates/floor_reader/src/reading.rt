@@ -12,6 +12,7 @@ use crate::records::fixture_row;
 use claims::Fixture;
 use floors::{BLOCK, BlockFault, FIRST_RECORD, FIXTURE_RECORD, MOST_BLOCKS, MOST_IN_BLOCK};
 use plates::Plate;
+use refusals::check;
 
 // What was read of a floor: its plate, and how many fixtures are now in the table.
 #[derive(Clone, Copy, Debug, PartialEq, Eq)]
@@ -28,9 +29,8 @@ fn check_floor(bytes: &[u8]) -> Result<Floor, BlockFault>
     let [first, others @ ..] = blocks else {
         return Err(BlockFault::WrongLength);
     };
-    if blocks.len() > MOST_BLOCKS || !rest.is_empty() {
-        return Err(BlockFault::WrongLength);
-    }
+    check(blocks.len() <= MOST_BLOCKS, BlockFault::WrongLength)?;
+    check(rest.is_empty(), BlockFault::WrongLength)?;
     let first = Block {
         bytes: first,
         number: 0,
@@ -79,9 +79,7 @@ pub fn read_floor(bytes: &[u8], table: &mut [Fixture]) -> Result<Floor, BlockFau
     ensures exact { ReadExactly bytes.now table.old result table.new }
 {
     let floor = check_floor(bytes)?;
-    if floor.count > table.len() {
-        return Err(BlockFault::TableTooShort);
-    }
+    check(floor.count <= table.len(), BlockFault::TableTooShort)?;
     fill_table(bytes, table, floor.count);
     Ok(floor)
 }

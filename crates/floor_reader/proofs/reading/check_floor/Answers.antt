@@ -1,5 +1,5 @@
 use Rattle.std.proofs.Common.{◌≡◌, ◌+◌, ◌-◌, ◌*◌, ◌/◌, length, get_or, None, sym, refl, ap, ◌∙◌, zero-add, arith}
-use Rattle.std.proofs.lemmas.Bool.{eqb-true, eqb-false}
+use Rattle.std.proofs.lemmas.Bool.{eqb-true, eqb-false, leb-true, leb-false}
 use Rattle.std.proofs.lemmas.Result.{err_from_is_err_and}
 use Rattle.refusals.specs.Answers.{or_else}
 use Rattle.floors.specs.Blocks.{first_among, plate_at}
@@ -7,30 +7,34 @@ use Rattle.floors.specs.Floors.{refused_in, fixture_count}
 use Rattle.floors.proofs.Firsts.{first_among_more}
 use Rattle.floors.proofs.Files.{Right, length_fault, floor_fault_at, floor_blocks, plate_count}
 use Rattle.floor_reader.proofs.ReadLaws.{first_long, other_long, first_refused, other_refused, first_is, other_is, written}
-use Rattle.floor_reader.proofs.reading.check_floor.Goals.{then-blocks-gt-MOST_BLOCKS-via-then-blocks-gt-MOST_BLOCKS, then-blocks-gt-MOST_BLOCKS-via-else-blocks-gt-MOST_BLOCKS+then-not-is_empty}
 use Rattle.floor_reader.proofs.reading.check_floor.Goals as goal
 
 pub returns-in_default : goal.returns-in_default
 returns-in_default c = length_fault c.args.bytes.now (λ r. omega arith)
 
-pub returns-then-blocks-gt-MOST_BLOCKS : goal.returns-then-blocks-gt-MOST_BLOCKS
-returns-then-blocks-gt-MOST_BLOCKS c =
-    length_fault c.args.bytes.now
-    (λ r. elim c.then-blocks-gt-MOST_BLOCKS.branch [
-      | then-blocks-gt-MOST_BLOCKS-via-then-blocks-gt-MOST_BLOCKS w ↦ omega arith
-      | then-blocks-gt-MOST_BLOCKS-via-else-blocks-gt-MOST_BLOCKS+then-not-is_empty w ↦ eqb-false _ 0 (sym w.is_empty.ensures ∙ w.if-not-is_empty.true) (omega arith)
-    ])
+pub returns-in_err-check : goal.returns-in_err-check
+returns-in_err-check c =
+    let p = err_from_is_err_and c.from_residual.result c.from_residual.ensures.1 in
+    let long = leb-false _ _ c.in_err-check.ensures.0 in
+    rw (p.1, p.2, c.in_err-check.ensures.1) (length_fault c.args.bytes.now (λ r. omega arith))
+
+pub returns-in_err-check-2 : goal.returns-in_err-check-2
+returns-in_err-check-2 c =
+    let p = err_from_is_err_and c.from_residual-in_err-check-2.result c.from_residual-in_err-check-2.ensures.1 in
+    rw (p.1, p.2, c.in_err-check-2.ensures.1)
+    (length_fault c.args.bytes.now (λ r. eqb-false _ 0 (sym c.is_empty.ensures ∙ c.in_err-check-2.ensures.0) (omega arith)))
 
 pub invariant_of-first : goal.invariant_of-first
 invariant_of-first c =
     let e = c.as_chunks.ensures in
+    let few = leb-true _ _ c.in_ok-check.ensures in
     record { whole = first_long c.args.bytes.now c.as_chunks.result.0.now e.front e.front_len (omega arith); inside = omega arith; few = omega arith }
 
 pub returns-in_err-plate : goal.returns-in_err-plate
 returns-in_err-plate c =
-    let p = err_from_is_err_and c.from_residual.result c.from_residual.ensures.1 in
+    let p = err_from_is_err_and c.from_residual-in_err-plate.result c.from_residual-in_err-plate.ensures.1 in
     let e = c.as_chunks.ensures in
-    let none = eqb-true (length c.as_chunks.result.1.now) 0 (sym c.is_empty.ensures ∙ c.if-not-is_empty.false) in
+    let none = eqb-true (length c.as_chunks.result.1.now) 0 (sym c.is_empty.ensures ∙ c.in_ok-check-2.ensures) in
     let right : Right c.args.bytes.now = (omega arith, omega arith, omega arith) in
     rw (p.1, p.2)
     (floor_fault_at c.args.bytes.now right 0 _ refl (first_refused c.args.bytes.now c.as_chunks.result.0.now e.front e.front_len (omega arith) ∙ c.in_err-plate.ensures) (omega arith))
@@ -38,7 +42,7 @@ returns-in_err-plate c =
 pub loop-before-init : goal.loop-before-init
 loop-before-init c =
     let e = c.as_chunks.ensures in
-    let none = eqb-true (length c.as_chunks.result.1.now) 0 (sym c.is_empty.ensures ∙ c.if-not-is_empty.false) in
+    let none = eqb-true (length c.as_chunks.result.1.now) 0 (sym c.is_empty.ensures ∙ c.in_ok-check-2.ensures) in
     let right : Right c.args.bytes.now = (omega arith, omega arith, omega arith) in
     let fine = first_refused c.args.bytes.now c.as_chunks.result.0.now e.front e.front_len (omega arith) ∙ c.in_ok-plate.ensures.0 in
     record { fine = ap (λ o. or_else o None) fine; counted = sym (plate_count c.args.bytes.now right fine) ∙ sym (zero-add _) }
@@ -52,7 +56,7 @@ pub returns-in_err-count : goal.returns-in_err-count
 returns-in_err-count c =
     let p = err_from_is_err_and c.from_residual-in_err-count.result c.from_residual-in_err-count.ensures.1 in
     let e = c.as_chunks.ensures in
-    let none = eqb-true (length c.as_chunks.result.1.now) 0 (sym c.is_empty.ensures ∙ c.if-not-is_empty.false) in
+    let none = eqb-true (length c.as_chunks.result.1.now) 0 (sym c.is_empty.ensures ∙ c.in_ok-check-2.ensures) in
     let right : Right c.args.bytes.now = (omega arith, omega arith, omega arith) in
     let k = c.loop-before.before in
     rw (p.1, p.2)
@@ -75,7 +79,7 @@ returns c =
     let bytes = c.args.bytes.now in
     let e = c.as_chunks.ensures in
     let k = c.loop-before.before in
-    let none = eqb-true (length c.as_chunks.result.1.now) 0 (sym c.is_empty.ensures ∙ c.if-not-is_empty.false) in
+    let none = eqb-true (length c.as_chunks.result.1.now) 0 (sym c.is_empty.ensures ∙ c.in_ok-check-2.ensures) in
     let right : Right bytes = (omega arith, omega arith, omega arith) in
     let n : k + 1 ≡ length bytes / 512 = omega arith in
     let fine = floor_blocks bytes right ∙ sym (ap (first_among (refused_in bytes) 0) n) ∙ c.loop-before.invariant.fine in
