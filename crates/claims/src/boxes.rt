@@ -9,7 +9,10 @@ pub struct Span {
     pub high: i64,
 }
 
-// Claims, reaches and fixtures have a span on each axis, and no box of their own around the two: whatever reads them takes one axis at a time, but for the check of the order of edges.
+// Claims, reaches and fixtures have a span on each axis, and no record around the two: x and y are their public fields, by which callers and clauses name them.
+
+// The greatest speed that a claim may have.
+pub(crate) const FASTEST: u32 = 20_000_000;
 
 // A claim: the thing with this label is in the box now, and leaves it on no side faster than speed.
 #[derive(Clone, Copy, Debug, PartialEq, Eq)]

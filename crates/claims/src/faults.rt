@@ -9,6 +9,7 @@ use crate::fields::{FixtureField, MoverField, SeenField, ThingField};
 use refusals::{Fault, Layer};
 use std::fmt;
 
+// Why a thing, a table of things or a horizon is refused.
 #[derive(Clone, Copy, Debug, PartialEq, Eq)]
 pub enum ThingFault {
     // the first field out of its range

@@ -3,12 +3,15 @@ ghost use Rattle.std.specs.Prelude.{◌≡◌, ◌≤◌, pos, neg_ℤ, ◌≤�
 ghost use Rattle.std.proofs.Common.{rules, refl};
 ghost use Rattle.claims.specs.Things.{zero_mover, mover_refused, MoverRanged, half_box, around, mover_claim};
 
-use crate::boxes::{Claim, Span};
+use crate::boxes::{Claim, FASTEST, Span};
 use crate::faults::ThingFault;
 use crate::fields::MoverField;
 use crate::fixtures::near;
 use crate::rows::Row;
 use refusals::check;
+
+// The largest half side and the largest error of a mover.
+const LARGEST: u64 = 10_000_000_000;
 
 // A mover: a row of a table, whatever its fields hold.
 #[derive(Clone, Copy, Debug, Default, PartialEq, Eq)]
@@ -37,9 +40,9 @@ impl Row for Mover {
     fn checked(self) -> Result<Mover, ThingFault> {
         check(near(self.x), MoverField::X)?;
         check(near(self.y), MoverField::Y)?;
-        check(self.half_side <= 10_000_000_000, MoverField::HalfSide)?;
-        check(self.error <= 10_000_000_000, MoverField::Error)?;
-        check(self.speed <= 20_000_000, MoverField::Speed)?;
+        check(self.half_side <= LARGEST, MoverField::HalfSide)?;
+        check(self.error <= LARGEST, MoverField::Error)?;
+        check(self.speed <= FASTEST, MoverField::Speed)?;
         check(self.age <= 1_000, MoverField::Age)?;
         Ok(self)
     }

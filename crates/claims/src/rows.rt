@@ -19,8 +19,10 @@ pub trait Row: Copy + Default {
     fn checked(self) -> Result<Self, ThingFault>
         ensures { Answers thing_fault (refused self) (λ made. made ≡ self) result };
 
+    // The default is that thing.
     ghost zero_is_default: { (row : Self) → Self.is_default row → row ≡ zero };
 
+    // It is not refused itself.
     ghost zero_allowed: { refused zero ≡ None };
 
     // Why the row is no thing.

@@ -14,7 +14,7 @@ use floors::{
 };
 use refusals::check;
 
-// A block of a file: its bytes, its number, and how many blocks the file has in total.
+// A block of a file: its bytes, its number, and how many blocks the file has in total. A proof does not know the length of an array behind a field, so `whole` says it.
 #[derive(Clone, Copy)]
 pub(crate) struct Block<'a> {
     pub(crate) bytes: &'a [u8; BLOCK],

@@ -2,6 +2,8 @@
 ghost use Rattle.std.specs.Prelude.{◌≡◌, ◌+◌, ◌≤◌, length, take, drop};
 ghost use Rattle.floors.specs.Bytes.{i64_at};
 
+// Bytes, and where to begin: a slice from there on would say both, but the format counts from the first byte of a file or a block, and the definitions with it.
+
 // The N bytes that begin at a byte.
 pub(crate) fn array_at<const N: usize>(bytes: &[u8], at: usize) -> [u8; N]
     requires { at + N ≤ length bytes.now }

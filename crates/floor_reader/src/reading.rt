@@ -1,10 +1,9 @@
 // The whole file: first every block is checked, then the table is written.
-ghost use Rattle.std.specs.Prelude.{◌≡◌, ◌+◌, ◌-◌, ◌*◌, ◌/◌, ◌^◌, ◌<◌, ◌≤◌, ◌++◌, map, length, drop, IfOk, slice_index};
+ghost use Rattle.std.specs.Prelude.{◌≡◌, ◌+◌, ◌-◌, ◌*◌, ◌/◌, ◌^◌, ◌<◌, ◌≤◌, map, length, IfOk};
 ghost use Rattle.std.specs.List.{range_with_len};
 ghost use Rattle.refusals.specs.Answers.{Answers};
-ghost use Rattle.plates.specs.Plates.{held};
 ghost use Rattle.floors.specs.Faults.{block_fault};
-ghost use Rattle.floors.specs.Floors.{block_in, refused_in, floor_refused, plate_in, row_in, row_offset, read_refused};
+ghost use Rattle.floors.specs.Floors.{floor_refused, row_in, row_offset, read_refused};
 ghost use Rattle.floor_reader.specs.Reading.{Holds, Written, table_after, ReadExactly};
 
 use crate::blocks::Block;
@@ -57,21 +56,20 @@ fn row_offset(k: usize) -> usize
     BLOCK + FIRST_RECORD + BLOCK * (k / MOST_IN_BLOCK) + FIXTURE_RECORD * (k % MOST_IN_BLOCK)
 }
 
-// Writes the first `count` fixtures of checked bytes into the table.
-fn fill_table(bytes: &[u8], table: &mut [Fixture], count: usize)
-    requires room { count ≤ length table.old }
-    requires few { count ≤ 1024 }
-    requires there { count ≤ 13 * (length bytes.now / 512 - 1) }
-    ensures { table.new ≡ map (row_in bytes.now) (range_with_len 0 count) ++ drop count table.old }
+// Writes the first fixtures of checked bytes into rows, one into each.
+fn fill(bytes: &[u8], rows: &mut [Fixture])
+    requires few { length rows.old ≤ 1024 }
+    requires there { length rows.old ≤ 13 * (length bytes.now / 512 - 1) }
+    ensures { rows.new ≡ map (row_in bytes.now) (range_with_len 0 (length rows.old)) }
 {
-    for (k, row) in table[..count].iter_mut().enumerate() {
+    for (k, row) in rows.iter_mut().enumerate() {
         *row = fixture_row(bytes, row_offset(k));
     }
 }
 
 // Reads a floor file into the first rows of a table, and answers its plate and how many fixtures it has. The other rows, and after a refusal all, are as they were.
 // The table is handed in, and the count is answered beside it, as nothing here takes memory while it runs.
-#[tactic(auto, using(floors::proofs::Files::count_few), unfolding(floors::specs::Floors::fixtures_in))]
+#[tactic(auto, unfolding(floors::specs::Floors::fixtures_in))]
 pub fn read_floor(bytes: &[u8], table: &mut [Fixture]) -> Result<Floor, BlockFault>
     ensures answer { Answers block_fault (read_refused bytes.now (length table.old)) (Holds bytes.now) result }
     ensures table { table.new ≡ table_after result bytes.now table.old }
@@ -80,6 +78,6 @@ pub fn read_floor(bytes: &[u8], table: &mut [Fixture]) -> Result<Floor, BlockFau
 {
     let floor = check_floor(bytes)?;
     check(floor.count <= table.len(), BlockFault::TableTooShort)?;
-    fill_table(bytes, table, floor.count);
+    fill(bytes, &mut table[..floor.count]);
     Ok(floor)
 }

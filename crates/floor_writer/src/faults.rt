@@ -6,6 +6,7 @@ ghost use Rattle.std.proofs.Common.{rules};
 use refusals::{Fault, Layer};
 use std::fmt;
 
+// Why no floor file is written.
 #[derive(Clone, Copy, Debug, PartialEq, Eq)]
 pub enum WriteFault {
     // more than 1,024 fixtures

@@ -5,7 +5,7 @@ mod blocks;
 mod faults;
 mod writing;
 
-pub use claims::{Fixture, Span};
+pub use claims::{Fixture, Row, Span};
 pub use faults::WriteFault;
 pub use floors::{Fault, Layer};
 pub use plates::{Plate, PlateFields};

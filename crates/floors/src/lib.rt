@@ -5,7 +5,7 @@ mod faults;
 mod layout;
 mod sums;
 
-pub use claims::ThingFault;
+pub use claims::{FixtureField, ThingFault, ThingField};
 pub use faults::{BlockFault, Place, RecordFault};
 pub use layout::{
     BLOCK, BlockKind, CHECKSUM, FIRST_RECORD, FIXTURE_RECORD, MOST, MOST_BLOCKS, MOST_IN_BLOCK,

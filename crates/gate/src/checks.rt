@@ -3,7 +3,7 @@ ghost use Rattle.std.specs.Prelude.{◌≡◌, ◌-ℤ◌, ◌+ℤ◌, ◌^◌, 
 ghost use Rattle.std.specs.Result.{result_err};
 ghost use Rattle.refusals.specs.Answers.{Answers};
 ghost use Rattle.gate.specs.Faults.{tick_fault, field_number};
-ghost use Rattle.gate.specs.Checks.{placed, bad_field, radius_allowed, turn_allowed, reach_from, blocked, run_out_checked, open_refused, ticket_from, ticket_of};
+ghost use Rattle.gate.specs.Checks.{placed, bad_field, radius_allowed, turn_allowed, reach_from, blocked, run_out_checked, open_refused, ticket_of};
 ghost use Rattle.gate.specs.Gates.{meant};
 
 use crate::faults::TickFault;
@@ -24,7 +24,7 @@ impl MeasurementField {
     }
 }
 
-// Whether a coordinate is within ±FAR.
+// Whether a coordinate is within ±FAR. Things have the same test, at twice the distance: a function over both would take the distance, and say no more than `contains`.
 fn placed(z: i64) -> bool
     ensures { result ≡ placed z }
 {
@@ -36,15 +36,9 @@ impl Measurement {
     pub(crate) fn checked(self) -> Result<(), MeasurementField>
         ensures { result_err result ≡ bad_field self }
     {
-        if !placed(self.x) {
-            Err(MeasurementField::X)
-        } else if !placed(self.y) {
-            Err(MeasurementField::Y)
-        } else if !(0..=FASTEST).contains(&self.speed) {
-            Err(MeasurementField::Speed)
-        } else {
-            Ok(())
-        }
+        check(placed(self.x), MeasurementField::X)?;
+        check(placed(self.y), MeasurementField::Y)?;
+        check((0..=FASTEST).contains(&self.speed), MeasurementField::Speed)
     }
 }
 
@@ -72,7 +66,7 @@ impl Curve {
     }
 }
 
-// The places within a distance of a measured one.
+// The places within a distance of a measured one. It stands here and in `claims`, as it asks that nothing overflows, and a public call asks nothing.
 fn span_around(z: i64, distance: u64) -> Span
     requires { (placed z ≡ true) × (distance < 2 ^ 62) }
     ensures { result ≡ record { low = z -ℤ pos distance; high = z +ℤ pos distance } }

@@ -86,7 +86,7 @@ impl From<RunOutFault> for TickFault {
     }
 }
 
-// Why a release is refused. It shares one case with a tick, whose words and number stand in both: a fault of the measurement around it would be one more layer to take off.
+// Why a release is refused. It shares one case with a tick, whose words and number stand in both: a fault of the measurement inside both would be one more match for whoever reads them.
 #[derive(Clone, Copy, Debug, PartialEq, Eq)]
 pub enum ReleaseFault {
     // the gate is not tripped

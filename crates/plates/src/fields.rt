@@ -48,6 +48,7 @@ pub struct Range {
     pub high: u64,
 }
 
+// The fields in their order.
 const FIELDS: [PlateField; 9] = [
     PlateField::Brake,
     PlateField::Pull,

@@ -41,7 +41,7 @@ pub trait Fault {
     fn layer(&self) -> Layer
         ensures { result ≡ (says self.now).layer };
 
-    // The refusal's number, as the rules count refusals. Code tells faults apart by their cases, and never by this.
+    // The refusal's number, as the rules count refusals: for whoever reads it, as the cases tell faults apart in code.
     fn number(&self) -> u8
         ensures { result ≡ (says self.now).number };
 

@@ -64,7 +64,7 @@ impl fmt::Display for CountLine {
     }
 }
 
-// The line of a fault.
+// The line of a fault. A fault's words have `block` and `byte` too; here each number is a numeral, as in every line.
 #[derive(Clone, Copy)]
 pub struct FaultLine(pub BlockFault);
 

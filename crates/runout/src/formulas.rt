@@ -143,6 +143,7 @@ fn checked(plate: &Plate, speed: i64, acceleration: i64) -> Result<(), RunOutFau
     )
 }
 
+// Plate, speed and acceleration stand apart, as whoever asks has them apart; the two functions above take what this one is given.
 // The worst journey of a cart that is measured at a speed and held at an acceleration: the hold at the worst errors, then the brake at its weakest.
 pub fn run_out(plate: &Plate, speed: i64, acceleration: i64) -> Result<RunOut, RunOutFault>
     ensures answer { Answers run_out_fault (run_out_refused plate.now speed acceleration) (λ out. out ≡ run_out plate.now speed acceleration) result }

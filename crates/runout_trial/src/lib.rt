@@ -4,11 +4,12 @@
 #[cfg(test)]
 mod tests {
     use runout::{
-        Fault, Layer, Plate, PlateFault, PlateField, PlateFields, RunOutFault, run_out, worked_sums,
+        Fault, Layer, Plate, PlateFault, PlateField, PlateFields, RunOutFault, SAMPLE, run_out,
+        worked_sums,
     };
     use std::test::Fail;
 
-    // A plate's numbers, in the order of the fields.
+    // The numbers of the sample plate, in the order of the fields. They are written out, so that no conversion that is tested here makes them.
     const NUMBERS: [i64; 9] = [
         1_200,
         800,
@@ -20,19 +21,6 @@ mod tests {
         500,
         400_000_000,
     ];
-
-    // The same by name. It is written out, so that no conversion that is tested here makes it.
-    const SAMPLE: PlateFields = PlateFields {
-        brake: 1_200,
-        pull: 800,
-        drive_error: 200,
-        hold: 100,
-        speed_error: 10_000,
-        place_error: 20_000_000,
-        top_speed: 2_000_000,
-        turn_limit: 500,
-        half_side: 400_000_000,
-    };
 
     // The number of the refusal and the number of the field that it names, where the plate is refused and where it names one.
     fn refused(fields: PlateFields) -> Option<(u8, Option<usize>)> {

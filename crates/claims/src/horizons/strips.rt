@@ -5,7 +5,7 @@ ghost use Rattle.claims.specs.Faults.{thing_fault};
 ghost use Rattle.claims.specs.Things.{near};
 ghost use Rattle.claims.specs.Horizons.{seen_refused, before, past, strip, strips};
 
-use crate::boxes::{Claim, Span};
+use crate::boxes::{Claim, FASTEST, Span};
 use crate::faults::ThingFault;
 use crate::fields::SeenField;
 use crate::fixtures::{near, ordered};
@@ -15,6 +15,7 @@ use refusals::check;
 // The farthest that an edge of a claim may lie from 0.
 const END: i64 = 4_000_000_000_000;
 
+// From end to end of where a claim may lie.
 const EVERYWHERE: Span = Span {
     low: -END,
     high: END,
@@ -57,6 +58,7 @@ fn strip(x: Span, y: Span, speed: u32) -> Claim
 }
 
 impl Seen {
+    // The four edges have the checks of a fixture, under other names: one function of both would take the four names, and a call of it would be as long as the checks.
     // The rectangle that is seen and the speed for unseen things, or why they are refused.
     pub fn new(x: Span, y: Span, speed: u32) -> Result<Seen, ThingFault>
         ensures { Answers thing_fault (seen_refused x y speed) (λ seen. (seen.x ≡ x) × (seen.y ≡ y) × (seen.speed ≡ speed)) result }
@@ -65,7 +67,7 @@ impl Seen {
         check(near(x.high), SeenField::HighX)?;
         check(near(y.low), SeenField::LowY)?;
         check(near(y.high), SeenField::HighY)?;
-        check(speed <= 20_000_000, SeenField::Speed)?;
+        check(speed <= FASTEST, SeenField::Speed)?;
         check(ordered(&x, &y), ThingFault::LowAboveHigh)?;
         Ok(Seen { x, y, speed })
     }

@@ -1,5 +1,9 @@
-use Rattle.std.proofs.Common.{arith}
-use Rattle.std.proofs.lemmas.Bool.{leb-false}
+use Rattle.std.proofs.Common.{◌++◌, map, drop, ap, ◌∙◌, arith}
+use Rattle.std.proofs.lemmas.Bool.{leb-true, leb-false}
+use Rattle.std.proofs.lemmas.List.{length-take-le}
+use Rattle.std.specs.List.{range_with_len}
+use Rattle.floors.specs.Floors.{row_in}
+use Rattle.floors.proofs.Files.{count_few}
 use Rattle.floor_reader.proofs.ReadLaws.{exact_refused, exact_short, exact_read}
 use Rattle.floor_reader.proofs.reading.read_floor.Goals as goal
 
@@ -15,4 +19,17 @@ returns-in_err-check-clause-exact c =
 pub returns-clause-exact : goal.returns-clause-exact
 returns-clause-exact c =
     let e = c.in_ok-floor.ensures in
-    exact_read c.args.bytes.now c.args.table.now _ _ e.1.1 e.1.0.0 e.1.0.1 c.fill_table.ensures
+    let held = length-take-le c.in_ok-floor.floor.count c.args.table.now (leb-true _ _ c.in_ok-check.ensures) in
+    exact_read c.args.bytes.now c.args.table.now _ _ e.1.1 e.1.0.0 e.1.0.1 (ap (λ l. l ++ drop c.in_ok-floor.floor.count c.args.table.now) (c.fill.ensures ∙ ap (λ n. map (row_in c.args.bytes.now) (range_with_len 0 n)) held))
+
+pub fill-requires-clause-few : goal.fill-requires-clause-few
+fill-requires-clause-few c =
+    let held = length-take-le c.in_ok-floor.floor.count c.args.table.now (leb-true _ _ c.in_ok-check.ensures) in
+    let few = count_few c.args.bytes.now c.in_ok-floor.ensures.0 in
+    rw (held, c.in_ok-floor.ensures.1.0.1) few.0
+
+pub fill-requires-clause-there : goal.fill-requires-clause-there
+fill-requires-clause-there c =
+    let held = length-take-le c.in_ok-floor.floor.count c.args.table.now (leb-true _ _ c.in_ok-check.ensures) in
+    let few = count_few c.args.bytes.now c.in_ok-floor.ensures.0 in
+    rw (held, c.in_ok-floor.ensures.1.0.1) few.1
