@@ -8,7 +8,7 @@ use numerals::Numeral;
 use std::fmt;
 
 // Numbers, each after a blank.
-#[derive(Clone, Copy)]
+#[derive(Clone, Copy, Debug, PartialEq, Eq)]
 struct Blanked<const N: usize>([i64; N]);
 
 impl<const N: usize> fmt::Display for Blanked<N> {
@@ -24,7 +24,7 @@ impl<const N: usize> fmt::Display for Blanked<N> {
 }
 
 // The line of a plate.
-#[derive(Clone, Copy)]
+#[derive(Clone, Copy, Debug, PartialEq, Eq)]
 pub struct PlateLine(pub Plate);
 
 impl fmt::Display for PlateLine {
@@ -37,7 +37,7 @@ impl fmt::Display for PlateLine {
 }
 
 // The line of a fixture.
-#[derive(Clone, Copy)]
+#[derive(Clone, Copy, Debug, PartialEq, Eq)]
 pub struct FixtureLine(pub Fixture);
 
 impl fmt::Display for FixtureLine {
@@ -52,7 +52,7 @@ impl fmt::Display for FixtureLine {
 }
 
 // The line that says how many fixtures there are.
-#[derive(Clone, Copy)]
+#[derive(Clone, Copy, Debug, PartialEq, Eq)]
 pub struct CountLine(pub usize);
 
 impl fmt::Display for CountLine {
@@ -65,7 +65,7 @@ impl fmt::Display for CountLine {
 }
 
 // The line of a fault. A fault's words have `block` and `byte` too; here each number is a numeral, as in every line.
-#[derive(Clone, Copy)]
+#[derive(Clone, Copy, Debug, PartialEq, Eq)]
 pub struct FaultLine(pub BlockFault);
 
 impl fmt::Display for FaultLine {

@@ -11,7 +11,7 @@ use claims::{Claim, Reach, ThingFault};
 use refusals::check;
 use std::alloc::AllocError;
 
-// The most things that a roster may stand over.
+// The most things that a roster may stand over. A floor file has as many fixtures at most, by a rule of its own.
 const MOST: usize = 1_024;
 
 // The claims of the things of a table, in table order.
