@@ -73,7 +73,7 @@ fn half_box(mover: &Mover) -> u64
     mover.half_side + mover.error + mover.speed as u64 * mover.age as u64
 }
 
-// All that lies within n of z.
+// All that lies within n of z. Apart from the other spans around a place, as each asks that nothing overflows, and no public call has a `requires`.
 fn around(z: i64, n: u64) -> Span
     requires { (neg_ℤ (pos 2000000000000) ≤ℤ z) × ((z ≤ℤ pos 2000000000000) × (n ≤ 40000000000)) }
     ensures { result ≡ around z n }

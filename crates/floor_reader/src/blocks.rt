@@ -82,8 +82,8 @@ impl Block<'_> {
         ensures { let head = head_bytes self.now.number (nearest_count self.now.total self.now.number (slice_index self.now.bytes.now 1)) in Answers block_fault (option_map (λ k. block_fault (WrongByte (place self.now.number k))) (departs 0 head (take 8 self.now.bytes.now))) (λ p. (p.0 ≡ nearest_count self.now.total self.now.number (slice_index self.now.bytes.now 1)) × (p.1.now ≡ drop 8 self.now.bytes.now)) result }
     {
         let bytes = self.bytes;
+        // Of the slice, and not of the array, where the borrow check does not cover `rest @ ..`; so it has an `else`, which cannot come, as a block has 512 bytes.
         let [kind, count, zero2, zero3, n0, n1, n2, n3, rest @ ..] = bytes.as_slice() else {
-            // a block has 512 bytes
             unreachable!()
         };
         let [w0, w1, w2, w3] = (self.number as u32).to_le_bytes();
@@ -116,6 +116,7 @@ impl Block<'_> {
     {
         let (count, rest) = self.split_head()?;
         let used = self.used_bytes(count);
+        // A search, and what it finds is the place of the fault: no check of a test.
         match wrong_in_rest(rest, used) {
             Some(at) => {
                 let place = self.place(FIRST_RECORD + used + at);

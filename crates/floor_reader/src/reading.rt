@@ -25,6 +25,7 @@ fn check_floor(bytes: &[u8]) -> Result<Floor, BlockFault>
     ensures { Answers block_fault (floor_refused bytes.now) (λ floor. Holds bytes.now floor × Written bytes.now) result }
 {
     let (blocks, rest) = bytes.as_chunks::<BLOCK>();
+    // the first block is taken here, and a file of none has the wrong length
     let [first, others @ ..] = blocks else {
         return Err(BlockFault::WrongLength);
     };

@@ -14,6 +14,8 @@ use floors::{
 };
 use plates::{Plate, PlateFields};
 
+// Bytes, and where to write: a slice from there on would say both, but the format counts from the first byte of a block or a file, and the definitions with it.
+
 // Writes bytes into others from `at` on.
 #[tactic(auto, using(std::proofs::lemmas::Slice::overwrites, std::proofs::lemmas::Grind::common_steps))]
 pub(crate) fn put(bytes: &mut [u8], at: usize, new: &[u8])

@@ -120,7 +120,7 @@ impl BlockFault {
         }
     }
 
-    // The number of the plate's or the fixture's fault inside, or 0. It is no Option: the line that is written of a fault has a number here, and it is 0 where no fault is inside.
+    // The number of the plate's or the fixture's fault inside, or 0. It is no Option: the rules give 0 where no fault is inside (docs/FLOOR-FILE.md), and the line of a fault writes this number.
     pub fn inner(&self) -> u8
         ensures { result ≡ inner_number self.now }
     {

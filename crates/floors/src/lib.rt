@@ -1,4 +1,4 @@
-// The floor file: blocks of 512 bytes that hold the plate of a cart and the fixtures of a site. Here are its faults and its sum, and in specs/ its format; the reader and the writer are crates above.
+// The floor file: blocks of 512 bytes that hold the plate of a cart and the fixtures of a site. Here are its numbers and kinds of block, its faults and its sum, and in specs/ its format; the reader and the writer are crates above.
 #![tactic(auto)]
 
 mod faults;

@@ -1,4 +1,5 @@
 mod Checking
+mod Stepping
 mod Passing
 mod Motion
 mod Colliding

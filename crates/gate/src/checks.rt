@@ -66,7 +66,7 @@ impl Curve {
     }
 }
 
-// The places within a distance of a measured one. It stands here and in `claims`, as it asks that nothing overflows, and a public call asks nothing.
+// The places within a distance of a measured one. It stands apart from the spans around a place in `claims`, as each asks that nothing overflows, and no public call has a `requires`; one that stopped at the ends of 64 bits would have those ends in its contract, and each caller would take them out again.
 fn span_around(z: i64, distance: u64) -> Span
     requires { (placed z ≡ true) × (distance < 2 ^ 62) }
     ensures { result ≡ record { low = z -ℤ pos distance; high = z +ℤ pos distance } }
@@ -98,6 +98,7 @@ impl<S: Surroundings> Tick<'_, S> {
     fn unblocked(&self, reach: &Reach) -> Result<(), TickFault>
         ensures { Answers tick_fault (blocked (S.Surroundings.claims self.now.around.now) reach.now) (λ _. Unit {0}) result }
     {
+        // A question, whose answer is the claim of the fault: no check of a test.
         if reach.time > 0
             && let Some(claim) = self.around.first_blocking(reach)
         {

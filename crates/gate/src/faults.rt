@@ -74,7 +74,7 @@ impl fmt::Display for TickFault {
     }
 }
 
-// What turns the run-out down is a fault of the tick.
+// What turns the run-out down is a fault of the tick, of the same number and words; the run-out has its own, as it is asked alone too.
 impl From<RunOutFault> for TickFault {
     ghost from_gives = { λ fault tick. tick ≡ of_run_out fault };
 

@@ -23,6 +23,7 @@ pub struct WorkedTick {
     pub proposal: Order,
     pub around: Around,
     pub out: RunOut,
+    // a number, and no fault, as the rules list these ticks by it
     pub refused: Option<u8>,
 }
 
@@ -60,7 +61,7 @@ macro_rules! fixture_from {
     };
 }
 
-// A fixture over the cart.
+// A fixture over the cart. The gate's tests have it too, written out, as a test writes its own inputs.
 const OVER: Around = Around::Fixed(Fixture {
     label: 7,
     x: Span { low: -1, high: 1 },

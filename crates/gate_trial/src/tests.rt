@@ -11,7 +11,7 @@ use surroundings::{Fixture, Kind, Roster, Span, Surroundings};
 // No fixtures.
 const NONE: [Fixture; 0] = [];
 
-// A fixture over a cart at (0, 0); the worked ticks have the same one, as what is around their cart.
+// A fixture over a cart at (0, 0). Written out here, as a test writes its own inputs.
 const OVER: Fixture = Fixture {
     label: 7,
     x: Span { low: -1, high: 1 },

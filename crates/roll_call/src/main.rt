@@ -40,6 +40,7 @@ fn run(rt: &HostRuntime) -> anyhow::Result<()> {
     rt.stdin().take(MOST_BYTES).read_to_end(&mut bytes)?;
     // a table that any floor fits into
     let mut table = vec![in heap; Fixture::default(); MOST]?;
+    // not by `?`: of a refusal two lines are written first
     match read_floor(bytes.as_slice(), table.as_mut_slice()) {
         Ok(floor) => Ok(list(rt, floor.plate, &table[0..floor.count])?),
         Err(fault) => {

@@ -133,7 +133,7 @@ fn worst(plate: &Plate, speed: i64, acceleration: i64) -> RunOut
 fn checked(plate: &Plate, speed: i64, acceleration: i64) -> Result<(), RunOutFault>
     ensures { Answers run_out_fault (run_out_refused plate.now speed acceleration) (λ _. Within plate.now speed acceleration) result }
 {
-    // Tried with `contains` of a range: the search then leaves what the second check answers, with and without `?`.
+    // Tried with `contains` of a range: the proof of what the second check answers did not close, with `?` or without.
     check(0 <= speed && speed <= FASTEST, RunOutFault::Speed)?;
     let brake = plate.brake() as i64;
     let pull = plate.pull() as i64;
@@ -143,8 +143,8 @@ fn checked(plate: &Plate, speed: i64, acceleration: i64) -> Result<(), RunOutFau
     )
 }
 
-// Plate, speed and acceleration stand apart, as whoever asks has them apart; the two functions above take what this one is given.
 // The worst journey of a cart that is measured at a speed and held at an acceleration: the hold at the worst errors, then the brake at its weakest.
+// Plate, speed and acceleration stand apart, as whoever asks has them apart; the two functions above take what this one is given.
 pub fn run_out(plate: &Plate, speed: i64, acceleration: i64) -> Result<RunOut, RunOutFault>
     ensures answer { Answers run_out_fault (run_out_refused plate.now speed acceleration) (λ out. out ≡ run_out plate.now speed acceleration) result }
     ensures journey { IfOk result (RunOutOf (speeds plate.now speed acceleration)) }

@@ -53,6 +53,7 @@ mod tests {
         let mut travel: i64 = 0;
         let mut time: u32 = 0;
         let mut peak = now;
+        // over the ms, which are what is summed
         for i in 0..most {
             let order = if u64::from(i) < plate.hold() {
                 acceleration

@@ -34,6 +34,7 @@ fn reply(rt: &HostRuntime, plate: &Plate, number: usize, text: &str) -> io::Resu
 
 // The plate of the first line; where there is none, it is written why.
 fn plate_of(rt: &HostRuntime, text: &str) -> anyhow::Result<Plate> {
+    // not by `ok_or_else`: a line is written first, which may fail
     let Some(fields) = numbers::<9>(text) else {
         println!(rt; "line 1: not the nine numbers of a plate")?;
         return Err(anyhow!("the first line is no plate"));

@@ -25,7 +25,7 @@ impl<S: Surroundings> Surroundings for Horizon<S> {
     }
 }
 
-// The first of some claims that blocks the reach. Apart from the strips, which the check would open down to their edges before it looks for the chain's proof.
+// The first of some claims that blocks the reach. Tried over the strips in place: the proof did not close, as the check opens them down to their edges before it looks for the chain's.
 #[tactic(auto, unfolding(crate::specs::Asking::first_blocking))]
 fn first_claim(claims: &[Claim], reach: &Reach) -> Option<Claim>
     ensures { result ≡ first_blocking claims.now reach.now }

@@ -46,6 +46,7 @@ impl Kind for Fixture {
 }
 
 impl Kind for Mover {
+    // as the checks of `claims` have it, whose number is private
     const GREATEST_SPEED: u32 = 20_000_000;
 
     ghost GREATEST_SPEED = { 20000000 };

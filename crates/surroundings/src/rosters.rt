@@ -20,7 +20,7 @@ pub struct Roster<'a, T> {
     ghost few: { length rows.now ≤ 1024 },
 }
 
-// Copied whatever the rows are. By hand, as no derive takes a ghost field without a bound on `T`.
+// Copied whatever the rows are. Tried with `derive_where(Clone, Copy)`: refused beside a ghost field (`derive-over-ghost-field`); `derive` would ask `Clone` of the rows.
 impl<T> Clone for Roster<'_, T> {
     ghost is_clone = { λ roster copy. copy ≡ roster };
 

@@ -21,7 +21,7 @@ const EVERYWHERE: Span = Span {
     high: END,
 };
 
-// The two below differ in their side, which no type or number says.
+// Two functions, and not one: one of both would take the two ends, which is the span itself.
 
 // All that lies before a span.
 fn before(span: &Span) -> Span
@@ -50,6 +50,7 @@ fn strip(x: Span, y: Span, speed: u32) -> Claim
     ensures { result ≡ strip x y speed }
 {
     Claim {
+        // the label of the unseen, by the rules (docs/SURROUNDINGS.md)
         label: u32::MAX,
         x,
         y,
@@ -58,8 +59,8 @@ fn strip(x: Span, y: Span, speed: u32) -> Claim
 }
 
 impl Seen {
-    // The four edges have the checks of a fixture, under other names: one function of both would take the four names, and a call of it would be as long as the checks.
     // The rectangle that is seen and the speed for unseen things, or why they are refused.
+    // The four edges have the checks of a fixture, under other names: one function of both would take the four names, and a call of it would be as long as the checks.
     pub fn new(x: Span, y: Span, speed: u32) -> Result<Seen, ThingFault>
         ensures { Answers thing_fault (seen_refused x y speed) (λ seen. (seen.x ≡ x) × (seen.y ≡ y) × (seen.speed ≡ speed)) result }
     {

@@ -10,6 +10,7 @@ use std::test::Fail;
 #[test]
 fn every_byte_of_a_head_is_checked(rt: HostRuntime) -> Result<(), Fail> {
     let good = three_blocks(&rt)?;
+    // over blocks and bytes, which are what is changed
     for block in 0..3usize {
         for byte in 0..8usize {
             let mut bytes = good;
@@ -44,6 +45,7 @@ fn a_block_has_the_kind_of_its_place(rt: HostRuntime) -> Result<(), Fail> {
 fn unused_from(rt: &impl Abort, block: usize, first: usize) -> Result<(), Fail> {
     assert!(rt; block < 3);
     let good = three_blocks(rt)?;
+    // over the bytes, which are what is changed
     for byte in first..510 {
         let mut bytes = good;
         change(rt, &mut bytes, 512 * block + byte, 1)?;

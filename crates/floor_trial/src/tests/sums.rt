@@ -10,6 +10,7 @@ use std::test::Fail;
 #[test]
 fn a_changed_byte_is_a_wrong_sum_of_its_block(rt: HostRuntime) -> Result<(), Fail> {
     let good = three_blocks(&rt)?;
+    // over the bytes, which are what is changed
     for at in 0..1_536usize {
         let mut bytes = good;
         flip(&mut bytes, at)?;

@@ -100,6 +100,7 @@ impl Gate {
         ensures answer { Handled S.Surroundings.claims self.old event.entry result }
         ensures gate { self.new ≡ left S.Surroundings.claims self.old event.entry }
     {
+        // One match in place on state and event: a rule of the project, so that both are seen together (docs/GATE.md).
         match (self.state, event) {
             (State::Open, Event::Tick(tick)) => {
                 match tick.checked(&self.plate) {

@@ -16,6 +16,7 @@ const LEAST_BRAKING: i64 = 50;
 fn checked(fields: &PlateFields) -> Result<(), PlateFault>
     ensures { Answers plate_fault (plate_refused fields.now) (λ _. Unit {0}) result }
 {
+    // A search, and what it finds is the field of the fault: no check of a test.
     if let Some(field) = fields.first_outside() {
         return Err(PlateFault::OutOfRange(field));
     }
@@ -29,7 +30,7 @@ fn checked(fields: &PlateFields) -> Result<(), PlateFault>
     )
 }
 
-// The plate that holds nine numbers.
+// The plate that holds nine numbers. One by one, as a plate's are unsigned.
 fn holding(fields: PlateFields) -> Plate
     requires { Sound fields }
     ensures { held result ≡ fields }

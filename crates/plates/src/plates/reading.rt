@@ -6,7 +6,7 @@ use crate::fields::PlateFields;
 use crate::plates::Plate;
 
 impl Plate {
-    // The nine numbers that it was made of: a reader like those below, and no `From`, which would take the plate or name a lifetime.
+    // The nine numbers that it was made of. A reader like those below: `PlateFields::from(*plate)` would be no plainer than `plate.fields()`.
     pub fn fields(&self) -> PlateFields
         ensures { result ≡ held self.now }
     {

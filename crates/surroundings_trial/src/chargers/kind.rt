@@ -13,6 +13,7 @@ const FAR: i64 = 2_000_000_000_000;
 const HALF: i64 = 300_000_000;
 
 // Whether a coordinate of a charging point is within ±FAR.
+// The test of things, at the same distance: theirs is private to `claims`, and a client writes its own.
 fn near(z: i64) -> bool
     ensures { result ≡ near z }
 {
@@ -20,6 +21,7 @@ fn near(z: i64) -> bool
 }
 
 // What a charging point covers on an axis.
+// Apart from the other spans around a place, as each asks that nothing overflows, and no public call has a `requires`.
 fn around(z: i64) -> Span
     requires { near z ≡ true }
     ensures { result ≡ around z 300000000 }
