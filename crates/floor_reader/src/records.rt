@@ -11,7 +11,7 @@ use claims::{Fixture, Row, Span};
 use floors::{BlockFault, FIRST_RECORD, FIXTURE_RECORD, RecordFault};
 use plates::{Plate, PlateFields};
 
-// The row of the fixture's record that begins at a byte.
+// The row of the fixture's record that begins at a byte: its label, and four edges of 8 bytes each. The writer puts them at the same places; a name for each place would be a constant that two lines read.
 #[tactic(auto, unfolding(floors::specs::Blocks::fixture_at))]
 pub(crate) fn fixture_row(bytes: &[u8], byte: usize) -> Fixture
     requires { byte + 36 ≤ length bytes.now }
