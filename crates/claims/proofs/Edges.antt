@@ -31,16 +31,17 @@ up : (x : ℤ) → neg_ℤ (pos (2 ^ 63)) ≤ℤ x → saturate_to_bits 63 x ≡
 up (pos n) h = omega (arith, ints, clamps)
 up (negsuc n) h = omega (arith, ints, clamps)
 
-least_stopped : (z o y x : ℤ) → neg_ℤ (pos (2 ^ 63)) ≤ℤ o → y ≡ int_max z (neg_ℤ (pos (2 ^ 63))) → x ≡ int_max y o → x ≡ int_max z o
-least_stopped z o y x least first second = omega (arith, ints, clamps)
+-- an end that stopped at the least or the greatest number meets a number of 64 bits as it would have without
+pub low_stopped : (z o y x : ℤ) → neg_ℤ (pos (2 ^ 63)) ≤ℤ o → y ≡ int_max z (neg_ℤ (pos (2 ^ 63))) → x ≡ int_max y o → x ≡ int_max z o
+low_stopped z o y x least first second = omega (arith, ints, clamps)
 
-most_stopped : (z o y x : ℤ) → o ≤ℤ pos (2 ^ 63 - 1) → y ≡ int_min z (pos (2 ^ 63 - 1)) → x ≡ int_min y o → x ≡ int_min z o
-most_stopped z o y x most first second = omega (arith, ints, clamps)
+pub high_stopped : (z o y x : ℤ) → o ≤ℤ pos (2 ^ 63 - 1) → y ≡ int_min z (pos (2 ^ 63 - 1)) → x ≡ int_min y o → x ≡ int_min z o
+high_stopped z o y x most first second = omega (arith, ints, clamps)
 
--- A moved end that stopped at the least or the greatest number meets a number of 64 bits as it would have without.
+-- the same of a moved end, by the library's difference and sum
 module _ (z o y x : ℤ) (n : ℕ) where
-  pub low_stopped : z ≤ℤ pos (2 ^ 63 - 1) → neg_ℤ (pos (2 ^ 63)) ≤ℤ o → y ≡ saturate_to_bits 63 (z -ℤ pos n) → x ≡ int_max y o → x ≡ int_max (z -ℤ pos n) o
-  low_stopped most least first second = least_stopped (z -ℤ pos n) o y x least (first ∙ down (z -ℤ pos n) (omega (arith, ints))) second
+  pub low_saturated : z ≤ℤ pos (2 ^ 63 - 1) → neg_ℤ (pos (2 ^ 63)) ≤ℤ o → y ≡ saturate_to_bits 63 (z -ℤ pos n) → x ≡ int_max y o → x ≡ int_max (z -ℤ pos n) o
+  low_saturated most least first second = low_stopped (z -ℤ pos n) o y x least (first ∙ down (z -ℤ pos n) (omega (arith, ints))) second
 
-  pub high_stopped : neg_ℤ (pos (2 ^ 63)) ≤ℤ z → o ≤ℤ pos (2 ^ 63 - 1) → y ≡ saturate_to_bits 63 (z +ℤ pos n) → x ≡ int_min y o → x ≡ int_min (z +ℤ pos n) o
-  high_stopped least most first second = most_stopped (z +ℤ pos n) o y x most (first ∙ up (z +ℤ pos n) (omega (arith, ints))) second
+  pub high_saturated : neg_ℤ (pos (2 ^ 63)) ≤ℤ z → o ≤ℤ pos (2 ^ 63 - 1) → y ≡ saturate_to_bits 63 (z +ℤ pos n) → x ≡ int_min y o → x ≡ int_min (z +ℤ pos n) o
+  high_saturated least most first second = high_stopped (z +ℤ pos n) o y x most (first ∙ up (z +ℤ pos n) (omega (arith, ints))) second

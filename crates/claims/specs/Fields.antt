@@ -5,7 +5,7 @@ use Rattle.claims.specs.declared.fields.FixtureField.TheVariants.{LowX, HighX, L
 use Rattle.claims.specs.declared.fields.MoverField.{MoverField}
 use Rattle.claims.specs.declared.fields.MoverField.TheVariants.{X, Y, HalfSide, Error, Speed, Age}
 use Rattle.claims.specs.declared.fields.ThingField.{ThingField}
-use Rattle.claims.specs.declared.fields.ThingField.TheVariants.{OfFixture, OfMover, OfSeen}
+use Rattle.claims.specs.declared.fields.ThingField.TheVariants.{OfFixture, OfMover, OfSeen, OfOther}
 use Rattle.claims.specs.SeenFields.{seen_field_number}
 
 -- of a fixture: label, low x, high x, low y, high y
@@ -24,8 +24,9 @@ mover_field_number Error = 5
 mover_field_number Speed = 6
 mover_field_number Age = 7
 
--- the number of a field in its table
+-- the number of a field in its table; a kind of one's own gives the number itself
 abbrev pub field_number : ThingField → ℕ
 field_number (OfFixture field) = fixture_field_number field
 field_number (OfMover field) = mover_field_number field
 field_number (OfSeen field) = seen_field_number field
+field_number (OfOther number) = number

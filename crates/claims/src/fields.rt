@@ -32,12 +32,13 @@ pub enum SeenField {
     Speed,
 }
 
-// A field of one of these tables.
+// A field of one of these tables, or of a kind of thing of one's own, by its number there.
 #[derive(Clone, Copy, Debug, PartialEq, Eq)]
 pub enum ThingField {
     OfFixture(FixtureField),
     OfMover(MoverField),
     OfSeen(SeenField),
+    OfOther(u8),
 }
 
 impl ThingField {
@@ -49,6 +50,7 @@ impl ThingField {
             ThingField::OfFixture(field) => field as u8,
             ThingField::OfMover(field) => field as u8,
             ThingField::OfSeen(field) => field as u8,
+            ThingField::OfOther(number) => number,
         }
     }
 }

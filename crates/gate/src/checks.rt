@@ -94,6 +94,7 @@ impl<S: Surroundings> Tick<'_, S> {
     }
 
     // Nothing, or the first claim that blocks a reach of at least 1 ms.
+    #[inline(always)]
     #[tactic(auto, unfolding(crate::specs::Checks::blocked))]
     fn unblocked(&self, reach: &Reach) -> Result<(), TickFault>
         ensures { Answers tick_fault (blocked (S.Surroundings.claims self.now.around.now) reach.now) (λ _. Unit {0}) result }
@@ -108,6 +109,7 @@ impl<S: Surroundings> Tick<'_, S> {
     }
 
     // The checks of an open gate, in their order: a ticket, or the first fault.
+    #[inline(always)]
     #[tactic(auto, unfolding(crate::specs::Checks::open_refused, crate::specs::Checks::run_out_checked))]
     pub(crate) fn checked(&self, plate: &Plate) -> Result<Ticket, TickFault>
         ensures { Answers tick_fault (open_refused plate.now (meant S.Surroundings.claims self.now)) (λ ticket. ticket ≡ ticket_of plate.now (meant S.Surroundings.claims self.now)) result }

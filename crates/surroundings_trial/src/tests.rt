@@ -3,7 +3,7 @@ use super::*;
 use std::test::Fail;
 use surroundings::{
     Claim, Fault, Fixture, Kind, Mover, Pair, Reach, Roster, Row, Seen, Span, Surroundings,
-    ThingFault, ask,
+    ThingFault, ThingField, ask,
 };
 
 const fn span(low: i64, high: i64) -> Span {
@@ -304,6 +304,15 @@ fn a_horizon_claims_what_is_not_seen(rt: HostRuntime) -> Result<(), Fail> {
     }
     assert!(rt; Seen::new(span(-end, end), span(-end, end), 20_000_000).is_ok());
     Ok(())
+}
+
+// A kind of one's own names a field by its number.
+#[test]
+fn a_field_of_a_kind_of_ones_own_has_its_number(rt: HostRuntime) {
+    for number in [0, 1, 8, u8::MAX] {
+        let fault = ThingFault::OutOfRange(ThingField::OfOther(number));
+        assert_eq!(rt; said(fault), (21, Some(number)));
+    }
 }
 
 #[test]

@@ -94,7 +94,8 @@ impl Gate {
         )
     }
 
-    // What comes to the gate in its state.
+    // What comes to the gate in its state. Inlined, as its answer is taken apart at once: without that a tick takes half as long again.
+    #[inline(always)]
     #[tactic(auto, using(crate::proofs::Checking::left_open))]
     fn handle<S: Surroundings>(&mut self, event: Event<'_, S>) -> Answer
         ensures answer { Handled S.Surroundings.claims self.old event.entry result }

@@ -1,7 +1,7 @@
 use Rattle.std.proofs.Common.{arith, w64, SFits, rules}
 use lib.Signed.{le_z}
 use Rattle.std.proofs.lemmas.Int.{ints, to_z-of_z}
-use Rattle.claims.proofs.Edges.{low_stopped, high_stopped}
+use Rattle.claims.proofs.Edges.{low_saturated, high_saturated}
 use Rattle.claims.proofs.boxes.Span.meets.Goals as goal
 
 pub returns : goal.returns
@@ -17,9 +17,9 @@ returns c =
     let f7 : SFits w64 c.max-low.result = search rules in
     let f8 : SFits w64 c.min-high.result = search rules in
     let low =
-    low_stopped self.low other.low c.saturating_sub_unsigned.result c.max-low.result c.args.by (omega (arith, ints)) (omega (arith, ints))
+    low_saturated self.low other.low c.saturating_sub_unsigned.result c.max-low.result c.args.by (omega (arith, ints)) (omega (arith, ints))
     (simp to_z-of_z at c.saturating_sub_unsigned.ensures) (simp to_z-of_z at c.max-low.ensures.value) in
     let high =
-    high_stopped self.high other.high c.saturating_add_unsigned.result c.min-high.result c.args.by (omega (arith, ints)) (omega (arith, ints))
+    high_saturated self.high other.high c.saturating_add_unsigned.result c.min-high.result c.args.by (omega (arith, ints)) (omega (arith, ints))
     (simp to_z-of_z at c.saturating_add_unsigned.ensures) (simp to_z-of_z at c.min-high.ensures.value) in
     simp to_z-of_z (λ i. le_z (low i) (high i))
